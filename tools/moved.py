@@ -10,6 +10,7 @@ is compiled, and the compiler has to say one of `SAID` there. The last line is `
 import argparse
 import pathlib
 import shutil
+import signal
 import subprocess
 import sys
 import tempfile
@@ -46,6 +47,8 @@ def said_of(room, trial):
 
 def main():
     argparse.ArgumentParser(description=__doc__, formatter_class=argparse.RawDescriptionHelpFormatter).parse_args()
+    # a stopped run leaves no room and no compiler behind
+    signal.signal(signal.SIGTERM, lambda *_: sys.exit(1))
     trials = sorted(TOP.glob("crates/*/moved/*.edit"))
     passed = 0
     with tempfile.TemporaryDirectory(prefix="moved-") as name:

@@ -4,6 +4,7 @@ use crate::value::Value;
 use crate::work::{ThreadAnswers, Values, look};
 use crate::{Round, RoundFault};
 use std::alloc::Global;
+use table_cell::Low;
 
 /// How many values of a round without a fault had which fate. Each value that a thread inserted has one fate.
 #[derive(Clone, Copy, Debug)]
@@ -19,10 +20,10 @@ pub struct Account {
 }
 
 /// Accounts for each value of a round whose threads have ended. Takes the table apart. `Err` is the first fault.
-pub(crate) fn account_for(
+pub(crate) fn account_for<A: Low + Copy>(
     alloc: Global,
     round: Round,
-    table: Values<'_>,
+    table: Values<A>,
     answers: Vec<Result<ThreadAnswers, RoundFault>>,
 ) -> Result<Account, RoundFault> {
     let mut fates = Fates::new(alloc, round.values())?;
@@ -69,7 +70,11 @@ fn settle_answers(
 
 /// Checks that a look-up finds an equal entry of each value that wasn't refused, if the closures are lawful. `Err` names the first value
 /// without one.
-fn check_found(table: &Values<'_>, round: Round, fates: &Fates) -> Result<(), RoundFault> {
+fn check_found<A: Low + Copy>(
+    table: &Values<A>,
+    round: Round,
+    fates: &Fates,
+) -> Result<(), RoundFault> {
     if !round.is_lawful() {
         return Ok(());
     }
@@ -85,7 +90,11 @@ fn check_found(table: &Values<'_>, round: Round, fates: &Fates) -> Result<(), Ro
 }
 
 /// Returns the values that a walk yields. `Err`: a value came twice or was never inserted, or memory was refused.
-fn walk(alloc: Global, round: Round, table: &Values<'_>) -> Result<Fates, RoundFault> {
+fn walk<A: Low + Copy>(
+    alloc: Global,
+    round: Round,
+    table: &Values<A>,
+) -> Result<Fates, RoundFault> {
     let mut walked = Fates::new(alloc, round.values())?;
     for entry in table {
         walked.settle(entry.given.id, Fate::Entry)?;

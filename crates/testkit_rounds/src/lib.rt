@@ -22,6 +22,7 @@ use std::alloc::Global;
 use std::sync::Wait;
 use std::thread;
 use std::thread::Threads;
+use table_cell::Low;
 use testkit::refusing::Refusing;
 use work::{Job, ThreadAnswers, Values, work};
 
@@ -32,9 +33,27 @@ pub fn run_round<R: Threads + Wait + Sync>(
     round: Round,
 ) -> Result<Account, RoundFault> {
     let heap = Refusing::new(alloc, round.rule());
+    let account = run_over(rt, alloc, &heap, &heap, round)?;
+    if account.refused > round.refusals().wrapping_sub(heap.refusals_left()) {
+        return Err(RoundFault::Refusals);
+    }
+    if heap.granted() != heap.given_back() {
+        return Err(RoundFault::Blocks);
+    }
+    Ok(account)
+}
+
+/// Runs a round on a table over this memory, whose blocks the heap counts, and accounts for each value. `Err` is the first fault.
+fn run_over<R: Threads + Wait + Sync, A: Low + Copy + Send + Sync>(
+    rt: &R,
+    alloc: Global,
+    heap: &Refusing<Global>,
+    memory: A,
+    round: Round,
+) -> Result<Account, RoundFault> {
     let whims = Whims::new(round.seed);
     let start = Start::new(round.threads);
-    let table = table_of(&heap, round.first_capacity);
+    let table = table_of(memory, round.first_capacity);
     let answers = answers_of_threads(
         rt,
         &Job {
@@ -47,12 +66,6 @@ pub fn run_round<R: Threads + Wait + Sync>(
     )?;
     let given_back = heap.given_back();
     let account = account_for(alloc, round, table, answers)?;
-    if account.refused > round.refusals().wrapping_sub(heap.refusals_left()) {
-        return Err(RoundFault::Refusals);
-    }
-    if heap.granted() != heap.given_back() {
-        return Err(RoundFault::Blocks);
-    }
     Ok(Account {
         given_back,
         ..account
@@ -60,18 +73,18 @@ pub fn run_round<R: Threads + Wait + Sync>(
 }
 
 /// Makes an empty table. If `first_capacity` isn't a first capacity, the table has the usual one.
-fn table_of<'m>(heap: &'m Refusing<Global>, first_capacity: usize) -> Values<'m> {
+fn table_of<A: Low + Copy>(memory: A, first_capacity: usize) -> Values<A> {
     if is_first_capacity(first_capacity) {
-        LockFreeRawTable::with_first_capacity(heap, first_capacity)
+        LockFreeRawTable::with_first_capacity(memory, first_capacity)
     } else {
-        LockFreeRawTable::new(heap)
+        LockFreeRawTable::new(memory)
     }
 }
 
 /// Runs the threads of the round, and returns the outcomes of each thread. `Err`: memory for the threads was refused.
-fn answers_of_threads<R: Threads + Wait + Sync>(
+fn answers_of_threads<R: Threads + Wait + Sync, A: Low + Copy + Send + Sync>(
     rt: &R,
-    job: &Job<'_, '_>,
+    job: &Job<'_, A>,
 ) -> Result<Vec<Result<ThreadAnswers, RoundFault>>, RoundFault> {
     let answers = thread::map_indices(
         rt,

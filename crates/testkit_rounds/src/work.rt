@@ -5,19 +5,19 @@ use crate::value::{Given, Value};
 use crate::{Kind, Round, RoundFault};
 use std::alloc::{AllocError, Global};
 use std::sync::Wait;
+use table_cell::Low;
 use table_shared::LockFreeRawTable;
-use testkit::refusing::Refusing;
 
 /// The table of a round.
-pub(crate) type Values<'m> = LockFreeRawTable<Box<Value>, &'m Refusing<Global>>;
+pub(crate) type Values<A> = LockFreeRawTable<Box<Value>, A>;
 
 /// What an insert returns.
 type Answer<'a> = Result<(&'a Value, Option<Box<Value>>), Box<Value>>;
 
 /// What the threads of a round share.
 #[derive(Clone, Copy)]
-pub(crate) struct Job<'a, 'm> {
-    pub table: &'a Values<'m>,
+pub(crate) struct Job<'a, A: Low + Copy> {
+    pub table: &'a Values<A>,
     pub whims: &'a Whims,
     pub start: &'a Start,
     pub round: Round,
@@ -44,9 +44,9 @@ struct Kept<'a> {
 
 /// Waits for the other threads, and inserts the thread's values one after the other. Keeps the first target that an insert returns, and
 /// checks it at the end. `Err` is the first fault.
-pub(crate) fn work<R: Wait>(
+pub(crate) fn work<R: Wait, A: Low + Copy>(
     rt: &R,
-    job: &Job<'_, '_>,
+    job: &Job<'_, A>,
     thread: u64,
 ) -> Result<ThreadAnswers, RoundFault> {
     let mut answers = ThreadAnswers {
@@ -70,7 +70,7 @@ pub(crate) fn work<R: Wait>(
 }
 
 /// Inserts the value with the closures of the round.
-fn insert<'a, R: Wait>(rt: &R, job: &Job<'a, '_>, value: Box<Value>) -> Answer<'a> {
+fn insert<'a, R: Wait, A: Low + Copy>(rt: &R, job: &Job<'a, A>, value: Box<Value>) -> Answer<'a> {
     let (table, whims, round) = (job.table, job.whims, job.round);
     if round.is_lawful() {
         let hash = round.hash_of(value.given.class);
@@ -139,20 +139,24 @@ fn keep(ids: &mut Vec<u64>, id: u64) -> Result<(), AllocError> {
 }
 
 /// Returns the entry of a class that a look-up finds.
-pub(crate) fn look<'a>(table: &'a Values<'_>, round: Round, class: u64) -> Option<&'a Value> {
+pub(crate) fn look<'a, A: Low + Copy>(
+    table: &'a Values<A>,
+    round: Round,
+    class: u64,
+) -> Option<&'a Value> {
     table.lookup(round.hash_of(class), |entry: &Value| {
         entry.given.class == class
     })
 }
 
 /// Returns the id of the entry of a class that a look-up finds.
-fn id_of(job: &Job<'_, '_>, class: u64) -> Option<u64> {
+fn id_of<A: Low + Copy>(job: &Job<'_, A>, class: u64) -> Option<u64> {
     Some(look(job.table, job.round, class)?.given.id)
 }
 
 /// Looks up two classes in a round of kind `Beside`. `Err`: the class of the value that was just inserted has no entry, or another class
 /// had an entry and now has another one or none.
-fn look_beside(job: &Job<'_, '_>, given: Given) -> Result<(), RoundFault> {
+fn look_beside<A: Low + Copy>(job: &Job<'_, A>, given: Given) -> Result<(), RoundFault> {
     if job.round.kind != Kind::Beside {
         return Ok(());
     }
@@ -168,7 +172,11 @@ fn look_beside(job: &Job<'_, '_>, given: Given) -> Result<(), RoundFault> {
 }
 
 /// Checks that the kept target is unchanged and, with lawful closures, that a look-up finds it, not a copy. `Err`: it has changed or moved.
-fn check_kept(job: &Job<'_, '_>, thread: u64, kept: Kept<'_>) -> Result<(), RoundFault> {
+fn check_kept<A: Low + Copy>(
+    job: &Job<'_, A>,
+    thread: u64,
+    kept: Kept<'_>,
+) -> Result<(), RoundFault> {
     kept.target.mark(thread);
     let shown = look(job.table, job.round, kept.read.class);
     let stays = shown.is_some_and(|shown: &Value| shown.has_mark(thread));

@@ -1,7 +1,7 @@
 //! Tests that a table frees each block that it requests, once.
 use super::assert_same;
 use super::pairs::{End, Pair, Pairs};
-use std::alloc::{AllocError, Global};
+use std::alloc::{AllocError, Allocator, Global};
 use std::process::Abort;
 use std::test::Fail;
 use table_held::raw::IntoIter;
@@ -27,20 +27,17 @@ const REFUSED: [(usize, usize, u64); 9] = [
     (0, 31, 19),
 ];
 
-/// A table of pairs over an allocator that counts blocks.
-type HeapPairs<'a> = Pairs<&'a Heap>;
-
-/// The owning iterator of such a table.
-type Values<'a> = IntoIter<Box<Pair>, &'a Heap>;
+/// The owning iterator of a table of pairs.
+type Values<A> = IntoIter<Box<Pair>, A>;
 
 /// Makes a table with the pairs `(number, number)` of the numbers below `entries`. `Err`: no memory for a pair.
-fn table_of<'a>(
+fn table_of<A: Allocator + Copy>(
     rt: &impl Abort,
-    heap: &'a Heap,
+    memory: A,
     alloc: Global,
     entries: u64,
-) -> Result<HeapPairs<'a>, AllocError> {
-    let mut pairs = Pairs::of(heap, alloc);
+) -> Result<Pairs<A>, AllocError> {
+    let mut pairs = Pairs::of(memory, alloc);
     for number in 0..entries {
         pairs.assert_end(rt, number, End::Placed)?;
     }
@@ -64,7 +61,7 @@ fn assert_gives_back<T: Drop>(rt: &impl Abort, heap: &Heap, owner: T, least: u64
 }
 
 /// Takes `taken` values out, and asserts that at least one block is freed for each.
-fn take(rt: &impl Abort, heap: &Heap, values: &mut Values<'_>, taken: u64) {
+fn take<A: Allocator + Copy>(rt: &impl Abort, heap: &Heap, values: &mut Values<A>, taken: u64) {
     let before = heap.given_back();
     for _value in 0..taken {
         assert!(rt; values.next().is_some());
@@ -73,39 +70,56 @@ fn take(rt: &impl Abort, heap: &Heap, values: &mut Values<'_>, taken: u64) {
 }
 
 /// Takes `taken` of the `entries` values out, drops the rest, and asserts that each block is freed. `Err`: no memory for a pair.
-fn assert_taken(rt: &impl Abort, alloc: Global, entries: u64, taken: u64) -> Result<(), Fail> {
-    let heap = counted(alloc);
-    let mut values = table_of(rt, &heap, alloc, entries)?.table.into_iter();
+fn assert_taken<A: Allocator + Copy>(
+    rt: &impl Abort,
+    heap: &Heap,
+    memory: A,
+    alloc: Global,
+    entries: u64,
+    taken: u64,
+) -> Result<(), AllocError> {
+    let mut values = table_of(rt, memory, alloc, entries)?.table.into_iter();
     assert!(rt; heap.granted().saturating_sub(heap.given_back()) >= entries);
-    take(rt, &heap, &mut values, taken);
-    assert_gives_back(rt, &heap, values, entries.saturating_sub(taken));
+    take(rt, heap, &mut values, taken);
+    assert_gives_back(rt, heap, values, entries.saturating_sub(taken));
     Ok(())
 }
 
 /// Inserts 20 pairs while one request is refused, and asserts that the end of the table frees each block. `Err`: no memory for a pair.
-fn assert_refused_once(rt: &impl Abort, alloc: Global, rule: Rule) -> Result<(), AllocError> {
-    let heap = Refusing::new(alloc, rule);
-    let mut pairs = Pairs::of(&heap, alloc);
+fn assert_refused_once<A: Allocator + Copy>(
+    rt: &impl Abort,
+    heap: &Heap,
+    memory: A,
+    alloc: Global,
+) -> Result<(), AllocError> {
+    let mut pairs = Pairs::of(memory, alloc);
     for number in 0..20 {
         pairs.insert((number, number))?;
     }
     assert_same(rt, heap.refusals_left(), 0);
-    assert_gives_back(rt, &heap, pairs, 19);
+    assert_gives_back(rt, heap, pairs, 19);
     Ok(())
 }
 
 /// Asserts that a table of `entries` entries holds at least `blocks` blocks, and that its end frees all. `Err`: no memory for a pair.
-fn assert_end_of(rt: &impl Abort, alloc: Global, entries: u64, blocks: u64) -> Result<(), Fail> {
-    let heap = counted(alloc);
-    let table = table_of(rt, &heap, alloc, entries)?;
-    assert_gives_back(rt, &heap, table, blocks);
+fn assert_end_of<A: Allocator + Copy>(
+    rt: &impl Abort,
+    heap: &Heap,
+    memory: A,
+    alloc: Global,
+    entries: u64,
+    blocks: u64,
+) -> Result<(), AllocError> {
+    let table = table_of(rt, memory, alloc, entries)?;
+    assert_gives_back(rt, heap, table, blocks);
     Ok(())
 }
 
 #[test]
 fn the_end_of_a_table(rt: HostRuntime) -> Result<(), Fail> {
     for (entries, blocks) in TABLES {
-        assert_end_of(&rt, rt.alloc(), entries, blocks)?;
+        let heap = counted(rt.alloc());
+        assert_end_of(&rt, &heap, &heap, rt.alloc(), entries, blocks)?;
     }
     Ok(())
 }
@@ -113,7 +127,8 @@ fn the_end_of_a_table(rt: HostRuntime) -> Result<(), Fail> {
 #[test]
 fn values_taken_out(rt: HostRuntime) -> Result<(), Fail> {
     for (entries, taken) in TAKEN {
-        assert_taken(&rt, rt.alloc(), entries, taken)?;
+        let heap = counted(rt.alloc());
+        assert_taken(&rt, &heap, &heap, rt.alloc(), entries, taken)?;
     }
     Ok(())
 }
@@ -121,8 +136,23 @@ fn values_taken_out(rt: HostRuntime) -> Result<(), Fail> {
 #[test]
 fn a_request_refused(rt: HostRuntime) -> Result<(), Fail> {
     for (least, most, passing) in REFUSED {
-        assert_refused_once(&rt, rt.alloc(), Rule::new(least, most, passing, 1))?;
+        let heap = Refusing::new(rt.alloc(), Rule::new(least, most, passing, 1));
+        assert_refused_once(&rt, &heap, &heap, rt.alloc())?;
     }
+    Ok(())
+}
+
+/// Inserts a pair whose block is refused. Asserts that the table has a first generation and no entry. `Err`: no memory for the pair.
+fn assert_no_entry<A: Allocator + Copy>(
+    rt: &impl Abort,
+    heap: &Heap,
+    memory: A,
+    alloc: Global,
+) -> Result<(), AllocError> {
+    let mut pairs = Pairs::of(memory, alloc);
+    pairs.insert((1, 1))?;
+    pairs.assert_size(rt, 0, 16);
+    assert_blocks(rt, heap, 2, 0);
     Ok(())
 }
 
@@ -130,11 +160,7 @@ fn a_request_refused(rt: HostRuntime) -> Result<(), Fail> {
 #[test]
 fn a_generation_without_entries(rt: HostRuntime) -> Result<(), Fail> {
     let heap = Refusing::new(rt.alloc(), Rule::new(0, 31, 0, 1));
-    let mut pairs = Pairs::of(&heap, rt.alloc());
-    pairs.insert((1, 1))?;
-    pairs.assert_size(&rt, 0, 16);
-    assert_blocks(&rt, &heap, 2, 0);
-    drop(pairs);
+    assert_no_entry(&rt, &heap, &heap, rt.alloc())?;
     assert_blocks(&rt, &heap, 2, 2);
     Ok(())
 }

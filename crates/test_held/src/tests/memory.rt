@@ -105,10 +105,10 @@ fn assert_all_shown<A: Allocator + Copy>(
 }
 
 /// Takes the step. `Err`: no memory for a pair.
-fn take<A: Allocator>(
+fn take<B: Allocator, A: Allocator + Copy>(
     rt: &impl Abort,
-    heap: &Refusing<A>,
-    pairs: &mut Pairs<&Refusing<A>>,
+    heap: &Refusing<B>,
+    pairs: &mut Pairs<A>,
     step: Step,
 ) -> Result<(), AllocError> {
     match step {
@@ -123,14 +123,15 @@ fn take<A: Allocator>(
     Ok(())
 }
 
-/// Takes the steps on a new table over this heap. `Err`: no memory for a pair.
-fn take_all<A: Allocator>(
+/// Takes the steps on a new table over this memory, whose requests the heap refuses. `Err`: no memory for a pair.
+fn take_all<B: Allocator, A: Allocator + Copy>(
     rt: &impl Abort,
-    heap: &Refusing<A>,
+    heap: &Refusing<B>,
+    memory: A,
     alloc: Global,
     steps: &[Step],
 ) -> Result<(), AllocError> {
-    let mut pairs = Pairs::of(heap, alloc);
+    let mut pairs = Pairs::of(memory, alloc);
     for step in steps {
         take(rt, heap, &mut pairs, *step)?;
     }
@@ -141,7 +142,7 @@ fn take_all<A: Allocator>(
 fn growth_that_is_refused_comes_later(rt: HostRuntime) -> Result<(), Fail> {
     for (granted, refused, steps) in COURSES {
         let heap = Refusing::new(rt.alloc(), growth(granted, refused));
-        take_all(&rt, &heap, rt.alloc(), steps)?;
+        take_all(&rt, &heap, &heap, rt.alloc(), steps)?;
     }
     Ok(())
 }
@@ -150,6 +151,6 @@ fn growth_that_is_refused_comes_later(rt: HostRuntime) -> Result<(), Fail> {
 fn no_block(rt: HostRuntime) -> Result<(), Fail> {
     let below = Refusing::new(rt.alloc(), growth(2, 1));
     let heap = Refusing::new(&below, blocks(8, 1));
-    take_all(&rt, &heap, rt.alloc(), NO_BLOCK)?;
+    take_all(&rt, &heap, &heap, rt.alloc(), NO_BLOCK)?;
     Ok(())
 }

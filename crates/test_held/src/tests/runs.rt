@@ -156,6 +156,14 @@ impl<A: Allocator + Copy> Both<A> {
         self.lookup(rt, pair);
         Ok(())
     }
+
+    /// Inserts the pairs of the numbers below `NUMBERS`, each `tries` times at most. Asserts that each is an entry at last. `Err`: no memory.
+    fn insert_rest(&mut self, rt: &impl Abort, heap: &Heap, tries: u64) -> Result<(), Fail> {
+        for number in 0..NUMBERS {
+            self.insert_at_last(rt, heap, (number % 5, number), tries)?;
+        }
+        Ok(())
+    }
 }
 
 /// Returns the pairs of a table, in the order of its iterator. `Err`: no memory.
@@ -168,13 +176,19 @@ fn walk<A: Allocator + Copy>(pairs: &Pairs<A>, alloc: Global) -> Result<Vec<Pair
 }
 
 /// Makes `calls` calls that the seed draws, and asserts that the table and the list agree. `Err`: no memory.
-fn run_drawn(rt: &impl Abort, alloc: Global, seed: u64, calls: u64) -> Result<(), Fail> {
-    let heap = counted(alloc);
+fn run_drawn<A: Allocator + Copy>(
+    rt: &impl Abort,
+    heap: &Heap,
+    memory: A,
+    alloc: Global,
+    seed: u64,
+    calls: u64,
+) -> Result<(), Fail> {
     let mut numbers = SplitMix64::seed_from_u64(seed);
-    let mut both = Both::new(&heap, alloc);
+    let mut both = Both::new(memory, alloc);
     for _call in 0..calls {
         match draw(&mut numbers, 8) {
-            0..=4 => both.insert(rt, &heap, draw_pair(&mut numbers))?,
+            0..=4 => both.insert(rt, heap, draw_pair(&mut numbers))?,
             5 | 6 => both.lookup(rt, draw_pair(&mut numbers)),
             _ => both.count(rt),
         }
@@ -185,26 +199,37 @@ fn run_drawn(rt: &impl Abort, alloc: Global, seed: u64, calls: u64) -> Result<()
 #[test]
 fn generated_runs_answer_as_the_list(rt: HostRuntime) -> Result<(), Fail> {
     for seed in 0..40 {
-        run_drawn(&rt, rt.alloc(), seed, 300)?;
+        let heap = counted(rt.alloc());
+        run_drawn(&rt, &heap, &heap, rt.alloc(), seed, 300)?;
     }
     Ok(())
 }
 
-/// Makes a run of inserts in which the first `granted` requests are granted and the next `refused` are refused, and then inserts what is
-/// missing until it is an entry. Returns whether all `refused` refusals took place. `Err`: no memory for the test itself.
-fn run_refused(rt: &impl Abort, alloc: Global, granted: u64, refused: u64) -> Result<bool, Fail> {
-    let heap = Refusing::new(alloc, Rule::new(0, usize::MAX, granted, refused));
-    let mut both = Both::new(&heap, alloc);
+/// Makes a run of inserts in which the heap refuses at most `refused` requests, and then inserts what is missing until it is an entry.
+/// Asserts that the table and the list agree. `Err`: no memory for the test itself.
+fn insert_all<A: Allocator + Copy>(
+    rt: &impl Abort,
+    alloc: Global,
+    heap: &Heap,
+    memory: A,
+    refused: u64,
+) -> Result<(), Fail> {
+    let mut both = Both::new(memory, alloc);
     for number in 0..NUMBERS {
-        both.insert(rt, &heap, (number % 5, number))?;
-        both.insert(rt, &heap, (number / 2 % 5, number / 2))?;
+        both.insert(rt, heap, (number % 5, number))?;
+        both.insert(rt, heap, (number / 2 % 5, number / 2))?;
         both.count(rt);
     }
-    for number in 0..NUMBERS {
-        both.insert_at_last(rt, &heap, (number % 5, number), refused.saturating_add(1))?;
-    }
+    both.insert_rest(rt, heap, refused.saturating_add(1))?;
     both.count(rt);
-    both.walk(rt)?;
+    both.walk(rt)
+}
+
+/// Makes a run of inserts in which the first `granted` requests are granted and the next `refused` are refused. Returns whether all
+/// `refused` refusals took place. `Err`: no memory for the test itself.
+fn run_refused(rt: &impl Abort, alloc: Global, granted: u64, refused: u64) -> Result<bool, Fail> {
+    let heap = Refusing::new(alloc, Rule::new(0, usize::MAX, granted, refused));
+    insert_all(rt, alloc, &heap, &heap, refused)?;
     Ok(heap.refusals_left() == 0)
 }
 

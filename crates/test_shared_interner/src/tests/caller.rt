@@ -3,9 +3,8 @@ use shared_interner::{SharedInterner, Symbol};
 use std::alloc::{AllocError, Global};
 use std::fmt::Debug;
 use std::process::Abort;
+use table_cell::Low;
 pub(crate) use testkit::refusing::{Heap, counted};
-
-pub(crate) type Interner<'h> = SharedInterner<&'h Heap>;
 
 /// Asserts that `got` equals `expected`.
 pub(crate) fn assert_same<X: PartialEq + Debug + Drop>(rt: &impl Abort, got: X, expected: X) {
@@ -13,8 +12,12 @@ pub(crate) fn assert_same<X: PartialEq + Debug + Drop>(rt: &impl Abort, got: X, 
 }
 
 /// Makes an empty interner with room for `room` texts.
-pub(crate) fn interner_with<'h>(rt: &impl Abort, heap: &'h Heap, room: usize) -> Interner<'h> {
-    SharedInterner::with_capacity(heap, room).expect(rt, "an interner")
+pub(crate) fn interner_with<A: Low + Copy>(
+    rt: &impl Abort,
+    memory: A,
+    room: usize,
+) -> SharedInterner<A> {
+    SharedInterner::with_capacity(memory, room).expect(rt, "an interner")
 }
 
 /// Asserts that each granted block was freed.
@@ -41,9 +44,9 @@ pub(crate) fn texts_below(alloc: Global, count: u64) -> Result<Vec<String>, Allo
 }
 
 /// Interns the texts, and returns their symbols. `Err`: no memory.
-pub(crate) fn symbols_of(
+pub(crate) fn symbols_of<A: Low + Copy>(
     alloc: Global,
-    interner: &Interner<'_>,
+    interner: &SharedInterner<A>,
     texts: &[String],
 ) -> Result<Vec<Symbol>, AllocError> {
     let mut symbols = Vec::new(alloc);
@@ -54,7 +57,12 @@ pub(crate) fn symbols_of(
 }
 
 /// Asserts that each call returns this symbol for the text, and this text for the symbol.
-pub(crate) fn assert_named(rt: &impl Abort, interner: &Interner<'_>, text: &str, symbol: Symbol) {
+pub(crate) fn assert_named<A: Low + Copy>(
+    rt: &impl Abort,
+    interner: &SharedInterner<A>,
+    text: &str,
+    symbol: Symbol,
+) {
     assert_same(rt, interner.get(text), Some(symbol));
     assert_same(rt, interner.intern(text).ok(), Some(symbol));
     assert_same(rt, interner.text(symbol), Some(text));
@@ -65,9 +73,9 @@ pub(crate) fn assert_named(rt: &impl Abort, interner: &Interner<'_>, text: &str,
 }
 
 /// Asserts that the interner has these texts, each with its symbol, and no others.
-pub(crate) fn assert_has(
+pub(crate) fn assert_has<A: Low + Copy>(
     rt: &impl Abort,
-    interner: &Interner<'_>,
+    interner: &SharedInterner<A>,
     texts: &[String],
     symbols: &[Symbol],
 ) {

@@ -6,6 +6,7 @@ use std::alloc::{AllocError, Global};
 use std::num::NonZeroU32;
 use std::process::Abort;
 use std::test::Fail;
+use table_cell::Low;
 use testkit::refusing::{Refusing, Rule};
 
 /// How many texts are copied. With 10,000 texts the single-owner interner has grown.
@@ -34,12 +35,16 @@ fn symbols_to(rt: &impl Abort, alloc: Global, count: u32) -> Result<Vec<Symbol>,
 
 /// Copies a single-owner interner of `count` texts. Asserts that each text keeps its number, that a handle that hears of the texts knows
 /// them, and that a new text gets a new symbol. `Err`: no memory.
-fn assert_copied(rt: &impl Abort, alloc: Global, count: u32) -> Result<(), AllocError> {
+fn assert_copied<A: Low + Copy>(
+    rt: &impl Abort,
+    alloc: Global,
+    memory: A,
+    count: u32,
+) -> Result<(), AllocError> {
     let texts = texts_below(alloc, u64::from(count))?;
     let symbols = symbols_to(rt, alloc, count)?;
     let filled = filled(rt, alloc, texts.as_slice())?;
-    let heap = counted(alloc);
-    let Shared { interner, known } = SharedInterner::copy_of(&heap, &filled)?;
+    let Shared { interner, known } = SharedInterner::copy_of(memory, &filled)?;
     assert_has(rt, &interner, texts.as_slice(), symbols.as_slice());
     let mut names = interner.names();
     names.hear(&known);
@@ -47,23 +52,38 @@ fn assert_copied(rt: &impl Abort, alloc: Global, count: u32) -> Result<(), Alloc
         assert_same(rt, names.get(text.as_str()), Some(*symbol));
     }
     assert!(rt; count < names.intern("a new text")?.to_u32());
-    drop(names);
-    drop(known);
-    drop(interner);
-    assert_none_out(rt, &heap);
     Ok(())
 }
 
 #[test]
 fn texts_keep_their_numbers(rt: HostRuntime) -> Result<(), Fail> {
     for count in COUNTS {
-        assert_copied(&rt, rt.alloc(), count)?;
+        let heap = counted(rt.alloc());
+        assert_copied(&rt, rt.alloc(), &heap, count)?;
+        assert_none_out(&rt, &heap);
     }
     Ok(())
 }
 
 /// How many texts are copied while a request is refused.
 const FEW: u32 = 100;
+
+/// Copies a single-owner interner. Returns whether memory was refused, and otherwise asserts that each text keeps its symbol.
+fn is_refused<A: Low + Copy>(
+    rt: &impl Abort,
+    memory: A,
+    filled: &Texts,
+    texts: &[String],
+    symbols: &[Symbol],
+) -> bool {
+    match SharedInterner::copy_of(memory, filled) {
+        Ok(shared) => {
+            assert_has(rt, &shared.interner, texts, symbols);
+            false
+        }
+        Err(_) => true,
+    }
+}
 
 /// Checks that a copy leaves no memory allocated, with each request refused in turn.
 #[test]
@@ -74,11 +94,8 @@ fn a_refused_copy_leaves_nothing(rt: HostRuntime) -> Result<(), Fail> {
     let mut refused: u64 = 0;
     for granted in 0u64..200 {
         let heap = Refusing::new(rt.alloc(), Rule::new(0, usize::MAX, granted, 1));
-        match SharedInterner::copy_of(&heap, &filled) {
-            Ok(shared) => {
-                assert_has(&rt, &shared.interner, texts.as_slice(), symbols.as_slice());
-            }
-            Err(_) => refused = refused.wrapping_add(1),
+        if is_refused(&rt, &heap, &filled, texts.as_slice(), symbols.as_slice()) {
+            refused = refused.wrapping_add(1);
         }
         assert_none_out(&rt, &heap);
     }

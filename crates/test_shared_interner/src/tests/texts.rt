@@ -4,7 +4,7 @@ use shared_interner::{Names, SharedInterner, Symbol};
 use std::alloc::{AllocError, Global};
 use std::process::Abort;
 use std::test::Fail;
-use testkit::refusing::Refusing;
+use table_cell::Low;
 
 /// Texts of 0 to 100 bytes, no two of which are equal. Some differ in the last byte only.
 const TEXTS: [&str; 32] = [
@@ -43,10 +43,10 @@ const TEXTS: [&str; 32] = [
 ];
 
 /// Interns each text, asserts that it is new, and returns the symbols. `Err`: no memory.
-fn intern_each(
+fn intern_each<A: Low + Copy>(
     rt: &impl Abort,
     alloc: Global,
-    names: &mut Names<'_, &Refusing<Global>>,
+    names: &mut Names<'_, A>,
 ) -> Result<Vec<Symbol>, AllocError> {
     let mut symbols = Vec::with_capacity(alloc, TEXTS.len())?;
     for text in TEXTS {
@@ -56,19 +56,27 @@ fn intern_each(
     Ok(symbols)
 }
 
-/// Checks that each symbol has its text, so that no two texts have the same symbol.
+/// Asserts that each symbol has its text, so that no two texts have the same symbol. `Err`: no memory.
+fn assert_each_has_one<A: Low + Copy>(
+    rt: &impl Abort,
+    alloc: Global,
+    memory: A,
+) -> Result<(), AllocError> {
+    let interner = interner_with(rt, memory, 0);
+    assert!(rt; interner.is_empty());
+    let symbols = intern_each(rt, alloc, &mut interner.names())?;
+    for (text, symbol) in TEXTS.iter().zip(symbols.iter()) {
+        assert_named(rt, &interner, *text, *symbol);
+    }
+    assert_same(rt, interner.len(), TEXTS.len() as u64);
+    assert!(rt; !interner.is_empty());
+    Ok(())
+}
+
 #[test]
 fn each_text_has_a_symbol_that_gives_it_back(rt: HostRuntime) -> Result<(), Fail> {
     let heap = counted(rt.alloc());
-    let interner = interner_with(&rt, &heap, 0);
-    assert!(rt; interner.is_empty());
-    let symbols = intern_each(&rt, rt.alloc(), &mut interner.names())?;
-    for (text, symbol) in TEXTS.iter().zip(symbols.iter()) {
-        assert_named(&rt, &interner, *text, *symbol);
-    }
-    assert_same(&rt, interner.len(), TEXTS.len() as u64);
-    assert!(rt; !interner.is_empty());
-    drop(interner);
+    assert_each_has_one(&rt, rt.alloc(), &heap)?;
     assert_none_out(&rt, &heap);
     Ok(())
 }

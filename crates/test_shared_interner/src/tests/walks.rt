@@ -1,11 +1,12 @@
 //! Walks over the texts.
 use super::caller::{
-    Interner, assert_none_out, assert_same, counted, interner_with, symbols_of, texts_below,
+    assert_none_out, assert_same, counted, interner_with, symbols_of, texts_below,
 };
-use shared_interner::Symbol;
+use shared_interner::{SharedInterner, Symbol};
 use std::alloc::{AllocError, Global};
 use std::process::Abort;
 use std::test::Fail;
+use table_cell::Low;
 
 /// How many texts there are, and how many of them are known when a walk begins.
 const WALKS: [(u64, usize); 7] = [
@@ -20,10 +21,10 @@ const WALKS: [(u64, usize); 7] = [
 
 /// Interns the first `known` texts, and returns what a walk returns. At each step another handle hears what the walk knows, and interns one
 /// of the other texts, if any is left. `Err`: no memory.
-fn walked<'i>(
+fn walked<'i, A: Low + Copy>(
     rt: &impl Abort,
     alloc: Global,
-    interner: &'i Interner<'_>,
+    interner: &'i SharedInterner<A>,
     texts: &[String],
     known: usize,
 ) -> Result<Vec<(Symbol, &'i str)>, AllocError> {
@@ -67,15 +68,16 @@ fn assert_once(
 
 /// Asserts that a walk returns each text once that was known when it began, and no other text twice, and that a walk of the interner then
 /// returns each text. `Err`: no memory.
-fn assert_walk(
+fn assert_walk<A: Low + Copy>(
     rt: &impl Abort,
     alloc: Global,
-    interner: &Interner<'_>,
+    memory: A,
     texts: &[String],
     known: usize,
 ) -> Result<(), AllocError> {
-    let pairs = walked(rt, alloc, interner, texts, known)?;
-    let symbols = symbols_of(alloc, interner, texts)?;
+    let interner = interner_with(rt, memory, 0);
+    let pairs = walked(rt, alloc, &interner, texts, known)?;
+    let symbols = symbols_of(alloc, &interner, texts)?;
     assert_once(rt, pairs.as_slice(), texts, symbols.as_slice(), known);
     let mut all = Vec::new(alloc);
     for pair in interner.iter() {
@@ -91,9 +93,7 @@ fn a_walk_gives_each_text_once(rt: HostRuntime) -> Result<(), Fail> {
     for (count, known) in WALKS {
         let texts = texts_below(rt.alloc(), count)?;
         let heap = counted(rt.alloc());
-        let interner = interner_with(&rt, &heap, 0);
-        assert_walk(&rt, rt.alloc(), &interner, texts.as_slice(), known)?;
-        drop(interner);
+        assert_walk(&rt, rt.alloc(), &heap, texts.as_slice(), known)?;
         assert_none_out(&rt, &heap);
     }
     Ok(())

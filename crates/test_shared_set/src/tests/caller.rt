@@ -4,16 +4,17 @@ ghost use Rattle.std.specs.Prelude.{◌≡◌};
 use shared_set::{Handle, Inserted, SharedSet};
 use std::fmt::Debug;
 use std::process::Abort;
+use table_cell::Low;
 use table_terms::law::NumberLaw;
 pub(crate) use testkit::counting::numbers::InsertEnd;
 pub(crate) use testkit::counting::tally::Tally;
 pub(crate) use testkit::refusing::{Heap, counted};
 
 /// A set of numbers.
-pub(crate) type Numbers<'h> = SharedSet<u64, NumberLaw, &'h Heap>;
+pub(crate) type NumberSet<A> = SharedSet<u64, NumberLaw, A>;
 
 /// A handle of such a set.
-pub(crate) type Numbering<'s, 'h> = Handle<'s, u64, NumberLaw, &'h Heap>;
+pub(crate) type NumberHandle<'s, A> = Handle<'s, u64, NumberLaw, A>;
 
 /// Asserts that `got` equals `expected`.
 pub(crate) fn assert_same<X: PartialEq + Debug + Drop>(rt: &impl Abort, got: X, expected: X) {
@@ -21,8 +22,8 @@ pub(crate) fn assert_same<X: PartialEq + Debug + Drop>(rt: &impl Abort, got: X, 
 }
 
 /// Makes an empty set with room for `room` entries.
-pub(crate) fn set_with<'h>(rt: &impl Abort, heap: &'h Heap, room: usize) -> Numbers<'h> {
-    SharedSet::with_capacity(heap, room).expect(rt, "a set")
+pub(crate) fn set_with<A: Low + Copy>(rt: &impl Abort, memory: A, room: usize) -> NumberSet<A> {
+    SharedSet::with_capacity(memory, room).expect(rt, "a set")
 }
 
 /// Asserts that each granted block was freed.
@@ -43,7 +44,10 @@ pub(crate) fn end_of(ended: Inserted<'_, u64>, value: u64) -> (InsertEnd, Option
 }
 
 /// Inserts a number. Returns how the insert ended, with the entry's number.
-pub(crate) fn insert(handle: &mut Numbering<'_, '_>, value: u64) -> (InsertEnd, Option<u64>)
+pub(crate) fn insert<A: Low + Copy>(
+    handle: &mut NumberHandle<'_, A>,
+    value: u64,
+) -> (InsertEnd, Option<u64>)
     ensures { handle.new.of ≡ handle.old.of }
 {
     let ended = handle.insert(value);
@@ -51,7 +55,7 @@ pub(crate) fn insert(handle: &mut Numbering<'_, '_>, value: u64) -> (InsertEnd, 
 }
 
 /// Inserts a number until it isn't refused, at most `tries` times, and then looks it up. Returns how the insert ended.
-fn place(handle: &mut Numbering<'_, '_>, value: u64, tries: u32) -> InsertEnd
+fn place<A: Low + Copy>(handle: &mut NumberHandle<'_, A>, value: u64, tries: u32) -> InsertEnd
     ensures { handle.new.of ≡ handle.old.of }
 {
     for _tried in 0..tries {
@@ -65,7 +69,12 @@ fn place(handle: &mut Numbering<'_, '_>, value: u64, tries: u32) -> InsertEnd
 }
 
 /// Inserts the numbers from `from` to below `end`, each at most `tries` times. Returns how many were placed and how many were found.
-pub(crate) fn fill(handle: &mut Numbering<'_, '_>, from: u64, end: u64, tries: u32) -> Tally
+pub(crate) fn fill<A: Low + Copy>(
+    handle: &mut NumberHandle<'_, A>,
+    from: u64,
+    end: u64,
+    tries: u32,
+) -> Tally
     ensures { handle.new.of ≡ handle.old.of }
 {
     let mut tally = Tally::NONE;
@@ -76,7 +85,11 @@ pub(crate) fn fill(handle: &mut Numbering<'_, '_>, from: u64, end: u64, tries: u
 }
 
 /// Returns the first number from `from` to below `end` that isn't found, or `end` if each is found.
-pub(crate) fn first_missed(handle: &mut Numbering<'_, '_>, from: u64, end: u64) -> u64 {
+pub(crate) fn first_missed<A: Low + Copy>(
+    handle: &mut NumberHandle<'_, A>,
+    from: u64,
+    end: u64,
+) -> u64 {
     for value in from..end {
         if handle.get(&value) != Some(&value) {
             return value;
@@ -86,13 +99,21 @@ pub(crate) fn first_missed(handle: &mut Numbering<'_, '_>, from: u64, end: u64) 
 }
 
 /// Asserts that the handle finds each number below `end`, and not `end`.
-pub(crate) fn assert_has(rt: &impl Abort, handle: &mut Numbering<'_, '_>, end: u64) {
+pub(crate) fn assert_has<A: Low + Copy>(
+    rt: &impl Abort,
+    handle: &mut NumberHandle<'_, A>,
+    end: u64,
+) {
     assert_same(rt, first_missed(handle, 0, end), end);
     assert_same(rt, handle.get(&end), None);
 }
 
 /// Asserts that each value below `end` has a number, by which it is found. So no two values have the same number.
-pub(crate) fn assert_numbered(rt: &impl Abort, handle: &mut Numbering<'_, '_>, end: u64) {
+pub(crate) fn assert_numbered<A: Low + Copy>(
+    rt: &impl Abort,
+    handle: &mut NumberHandle<'_, A>,
+    end: u64,
+) {
     for value in 0..end {
         match handle.find(&value) {
             Some((number, entry)) => {

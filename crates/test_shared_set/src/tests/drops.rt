@@ -4,6 +4,7 @@ use shared_set::{Handle, Inserted, SharedSet};
 use std::alloc::AllocError;
 use std::process::Abort;
 use std::test::Fail;
+use table_cell::Low;
 use testkit::counting::{Counting, CountingLaw, Drops};
 use testkit::refusing::{Refusing, Rule};
 
@@ -20,10 +21,13 @@ const SETS: [(usize, u64, u64, u64); 4] = [
 ];
 
 /// A set of counting values.
-type Counts<'h> = SharedSet<Counting, CountingLaw, &'h Heap>;
+type Counts<A> = SharedSet<Counting, CountingLaw, A>;
 
 /// Inserts the value, and tries again if it is refused. Drops a value that is returned. Returns how the insert ended.
-fn insert(handle: &mut Handle<'_, Counting, CountingLaw, &Heap>, value: Counting) -> InsertEnd {
+fn insert<A: Low + Copy>(
+    handle: &mut Handle<'_, Counting, CountingLaw, A>,
+    value: Counting,
+) -> InsertEnd {
     let mut value = value;
     for _tried in 0..1000u32 {
         match handle.insert(value) {
@@ -43,7 +47,7 @@ fn insert(handle: &mut Handle<'_, Counting, CountingLaw, &Heap>, value: Counting
 }
 
 /// Inserts a value of each number. Returns how many were placed, and how many were found and returned. `Err`: no memory.
-fn insert_all(set: &Counts<'_>, values: &Drops) -> Result<Tally, AllocError> {
+fn insert_all<A: Low + Copy>(set: &Counts<A>, values: &Drops) -> Result<Tally, AllocError> {
     let mut handle = set.handle();
     let mut tally = Tally::NONE;
     for number in 0..NUMBERS {
@@ -53,7 +57,7 @@ fn insert_all(set: &Counts<'_>, values: &Drops) -> Result<Tally, AllocError> {
 }
 
 /// Ends the set, takes `taken` values out, and drops the rest. Asserts that each value is dropped once.
-fn end(rt: &impl Abort, set: Counts<'_>, values: &Drops, taken: u64) {
+fn end<A: Low + Copy>(rt: &impl Abort, set: Counts<A>, values: &Drops, taken: u64) {
     let mut ended = set.into_iter();
     for dropped in 0..taken {
         let never = NUMBERS.wrapping_sub(dropped);
@@ -64,20 +68,36 @@ fn end(rt: &impl Abort, set: Counts<'_>, values: &Drops, taken: u64) {
     assert_same(rt, values.never_and_once(), (0, NUMBERS));
 }
 
+/// Makes a set of this row, inserts the values and then the copies, and ends the set. Asserts that each copy is dropped once, and then each
+/// value. `Err`: no memory.
+fn assert_dropped<A: Low + Copy>(
+    rt: &impl Abort,
+    heap: &Heap,
+    memory: A,
+    row: (usize, u64, u64, u64),
+    values: &Drops,
+    copies: &Drops,
+) -> Result<(), AllocError> {
+    let (room, refused, _, taken) = row;
+    let set: Counts<A> = SharedSet::with_capacity(memory, room)?;
+    heap.refuse(0, refused);
+    let tallies = [insert_all(&set, values)?, insert_all(&set, copies)?];
+    assert_same(rt, tallies, [Tally::of(NUMBERS, 0), Tally::of(0, NUMBERS)]);
+    assert_same(rt, copies.never_and_once(), (0, NUMBERS));
+    assert_same(rt, values.never_and_once(), (NUMBERS, 0));
+    end(rt, set, values, taken);
+    Ok(())
+}
+
 #[test]
 fn each_value_is_dropped_once(rt: HostRuntime) -> Result<(), Fail> {
-    for (room, refused, one_in, taken) in SETS {
+    for row in SETS {
+        let (_, _, one_in, _) = row;
         let values = Drops::new(rt.alloc(), NUMBERS)?;
         let copies = Drops::new(rt.alloc(), NUMBERS)?;
         let rule = Rule::new(0, usize::MAX, 0, 0).drawn(7, one_in);
         let heap = Refusing::new(rt.alloc(), rule);
-        let set: Counts<'_> = SharedSet::with_capacity(&heap, room)?;
-        heap.refuse(0, refused);
-        let tallies = [insert_all(&set, &values)?, insert_all(&set, &copies)?];
-        assert_same(&rt, tallies, [Tally::of(NUMBERS, 0), Tally::of(0, NUMBERS)]);
-        assert_same(&rt, copies.never_and_once(), (0, NUMBERS));
-        assert_same(&rt, values.never_and_once(), (NUMBERS, 0));
-        end(&rt, set, &values, taken);
+        assert_dropped(&rt, &heap, &heap, row, &values, &copies)?;
         assert_none_out(&rt, &heap);
     }
     Ok(())

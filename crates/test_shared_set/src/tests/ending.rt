@@ -4,20 +4,21 @@ use shared_set::IntoValues;
 use std::alloc::{AllocError, Global};
 use std::process::Abort;
 use std::test::Fail;
+use table_cell::Low;
 use table_terms::law::NumberLaw;
 use testkit::counting::numbers::count_first;
 
 /// The values of a set of numbers that has ended.
-type Ended<'h> = IntoValues<u64, NumberLaw, &'h Heap>;
+type Ended<A> = IntoValues<u64, NumberLaw, A>;
 
 /// How many values a set has when it ends.
 const COUNTS: [usize; 6] = [0, 1, 7, 8, 9, 1000];
 
 /// Takes all `count` values of an ended set. Asserts that the number of values that are left is exact. `Err`: no memory.
-fn take_all(
+fn take_all<A: Low + Copy>(
     rt: &impl Abort,
     alloc: Global,
-    ended: &mut Ended<'_>,
+    ended: &mut Ended<A>,
     count: usize,
 ) -> Result<Vec<u64>, AllocError> {
     let mut values = Vec::new(alloc);
@@ -34,9 +35,14 @@ fn take_all(
 
 /// Ends a set of `count` values while all memory is refused. Asserts that the end makes no request and returns each value once. The values
 /// that handles knew are among them. `Err`: no memory.
-fn assert_ends(rt: &impl Abort, alloc: Global, count: usize) -> Result<(), AllocError> {
-    let heap = counted(alloc);
-    let set = set_with(rt, &heap, 0);
+fn assert_ends<A: Low + Copy>(
+    rt: &impl Abort,
+    alloc: Global,
+    heap: &Heap,
+    memory: A,
+    count: usize,
+) -> Result<(), AllocError> {
+    let set = set_with(rt, memory, 0);
     let early = set.handle().tell();
     let mut handle = set.handle();
     let half = count as u64 / 2;
@@ -54,14 +60,15 @@ fn assert_ends(rt: &impl Abort, alloc: Global, count: usize) -> Result<(), Alloc
     drop(ended);
     assert_same(rt, count_first(values), (count as u64, count as u64));
     assert_same(rt, heap.refusals_left(), u64::MAX);
-    assert_none_out(rt, &heap);
+    assert_none_out(rt, heap);
     Ok(())
 }
 
 #[test]
 fn each_value_is_returned_once(rt: HostRuntime) -> Result<(), Fail> {
     for count in COUNTS {
-        assert_ends(&rt, rt.alloc(), count)?;
+        let heap = counted(rt.alloc());
+        assert_ends(&rt, rt.alloc(), &heap, &heap, count)?;
     }
     Ok(())
 }

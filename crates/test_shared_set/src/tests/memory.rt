@@ -1,12 +1,13 @@
 //! Sets whose requests for memory are refused.
 use super::caller::{
-    Heap, InsertEnd, Numbering, Numbers, Tally, assert_has, assert_none_out, assert_same, counted,
-    end_of, fill, insert, set_with,
+    Heap, InsertEnd, NumberHandle, NumberSet, Tally, assert_has, assert_none_out, assert_same,
+    counted, end_of, fill, insert, set_with,
 };
 use super::made::{get_or_insert, seek_or_insert};
 use shared_set::SharedSet;
 use std::alloc::Global;
 use std::process::Abort;
+use table_cell::Low;
 use testkit::refusing::{Refusing, Rule};
 
 /// How many numbers a run places.
@@ -22,32 +23,38 @@ enum By {
 }
 
 /// Makes a set with room for `room` entries, by `new` if that is 0. `None` means that memory was refused.
-fn made<'h>(heap: &'h Heap, room: usize) -> Option<Numbers<'h>> {
+fn made<A: Low + Copy>(memory: A, room: usize) -> Option<NumberSet<A>> {
     if room == 0 {
-        return SharedSet::new(heap).ok();
+        return SharedSet::new(memory).ok();
     }
-    SharedSet::with_capacity(heap, room).ok()
+    SharedSet::with_capacity(memory, room).ok()
 }
 
 /// Makes a set with room for `room` entries, and tries again at most `refused` times. Asserts that a refused try leaves no memory
 /// allocated. `None` means that the last try was refused.
-fn made_at_last<'h>(
+fn made_at_last<A: Low + Copy>(
     rt: &impl Abort,
-    heap: &'h Heap,
+    heap: &Heap,
+    memory: A,
     room: usize,
     refused: u64,
-) -> Option<Numbers<'h>> {
+) -> Option<NumberSet<A>> {
     for _refused in 0..refused {
-        if let Some(set) = made(heap, room) {
+        if let Some(set) = made(memory, room) {
             return Some(set);
         }
         assert_none_out(rt, heap);
     }
-    made(heap, room)
+    made(memory, room)
 }
 
 /// Inserts the number by this call, and returns how it ended.
-fn insert_by(by: By, set: &Numbers<'_>, handle: &mut Numbering<'_, '_>, value: u64) -> InsertEnd {
+fn insert_by<A: Low + Copy>(
+    by: By,
+    set: &NumberSet<A>,
+    handle: &mut NumberHandle<'_, A>,
+    value: u64,
+) -> InsertEnd {
     match by {
         By::Handle => insert(handle, value).0,
         By::Set => end_of(set.insert(value), value).0,
@@ -60,11 +67,11 @@ fn insert_by(by: By, set: &Numbers<'_>, handle: &mut Numbering<'_, '_>, value: u
 }
 
 /// Places the number, and tries again at most `refused` times. Asserts that a refused insert keeps the numbers below this one.
-fn place_at_last(
+fn place_at_last<A: Low + Copy>(
     rt: &impl Abort,
     by: By,
-    set: &Numbers<'_>,
-    handle: &mut Numbering<'_, '_>,
+    set: &NumberSet<A>,
+    handle: &mut NumberHandle<'_, A>,
     value: u64,
     refused: u64,
 ) {
@@ -79,11 +86,15 @@ fn place_at_last(
     assert_same(rt, insert_by(by, set, handle, value), InsertEnd::Placed);
 }
 
-/// Places the numbers on memory that refuses `refused` requests after the first `granted` ones. Asserts that each number is placed after
-/// some tries, and then found. Returns whether all those requests were refused.
-fn run(rt: &impl Abort, (room, refused, by): Run, alloc: Global, granted: u64) -> bool {
-    let heap = Refusing::new(alloc, Rule::new(0, usize::MAX, granted, refused));
-    let set = made_at_last(rt, &heap, room, refused).expect(rt, "a set");
+/// Places the numbers in a set over this memory. Asserts that each number is placed after some tries, and then found. Returns how many
+/// refusals were left once each was placed.
+fn place_each<A: Low + Copy>(
+    rt: &impl Abort,
+    (room, refused, by): Run,
+    heap: &Heap,
+    memory: A,
+) -> u64 {
+    let set = made_at_last(rt, heap, memory, room, refused).expect(rt, "a set");
     let mut handle = set.handle();
     for value in 0..NUMBERS {
         place_at_last(rt, by, &set, &mut handle, value, refused);
@@ -93,7 +104,15 @@ fn run(rt: &impl Abort, (room, refused, by): Run, alloc: Global, granted: u64) -
     heap.refuse(0, 0);
     let tally = fill(&mut set.handle(), 0, NUMBERS, 1);
     assert_same(rt, tally, Tally::of(0, NUMBERS));
-    drop(set);
+    left
+}
+
+/// Makes a run on memory that refuses some requests in a row after the first `granted` ones. Asserts that each number is placed, and that
+/// each block is freed. Returns whether all those requests were refused.
+fn run(rt: &impl Abort, as_told: Run, alloc: Global, granted: u64) -> bool {
+    let (_, refused, _) = as_told;
+    let heap = Refusing::new(alloc, Rule::new(0, usize::MAX, granted, refused));
+    let left = place_each(rt, as_told, &heap, &heap);
     assert_none_out(rt, &heap);
     left == 0
 }
@@ -153,21 +172,28 @@ const HALVES: [(usize, usize); 7] = [
     (20, 1 << 10),
 ];
 
-/// Checks that a generation requests no growth until half of it is filled, and that the next insert requests it.
+/// Asserts that a generation requests no growth until half of it is filled, and that the next insert requests it.
+fn assert_grows_after_half<A: Low + Copy>(
+    rt: &impl Abort,
+    heap: &Heap,
+    memory: A,
+    (room, half): (usize, usize),
+) {
+    let set = set_with(rt, memory, room);
+    heap.refuse(0, u64::MAX);
+    let mut handle = set.handle();
+    let count = half as u64;
+    assert_same(rt, fill(&mut handle, 0, count, 1), Tally::of(count, 0));
+    assert_same(rt, heap.refusals_left(), u64::MAX);
+    assert_same(rt, insert(&mut handle, count).0, InsertEnd::Placed);
+    assert_same(rt, heap.refusals_left(), u64::MAX - 1);
+}
+
 #[test]
 fn a_generation_grows_once_half_of_it_is_filled(rt: HostRuntime) {
     for (room, half) in HALVES {
         let heap = without_growth(rt.alloc(), half.saturating_mul(2));
-        let set = set_with(&rt, &heap, room);
-        heap.refuse(0, u64::MAX);
-        let mut handle = set.handle();
-        let count = half as u64;
-        assert_same(&rt, fill(&mut handle, 0, count, 1), Tally::of(count, 0));
-        assert_same(&rt, heap.refusals_left(), u64::MAX);
-        assert_same(&rt, insert(&mut handle, count).0, InsertEnd::Placed);
-        assert_same(&rt, heap.refusals_left(), u64::MAX - 1);
-        drop(handle);
-        drop(set);
+        assert_grows_after_half(&rt, &heap, &heap, (room, half));
         assert_none_out(&rt, &heap);
     }
 }
@@ -175,60 +201,77 @@ fn a_generation_grows_once_half_of_it_is_filled(rt: HostRuntime) {
 /// The room of a set at first, and how many entries fill it: twice as many.
 const FILLED: [(usize, u64); 3] = [(16, 32), (128, 256), (1024, 2048)];
 
-/// Checks that a set whose growth is refused requests it sixteen times while its second half is filled, and then at each insert.
+/// Asserts that a set whose growth is refused requests it sixteen times while its second half is filled, and then at each insert.
+fn assert_asks_now_and_then<A: Low + Copy>(
+    rt: &impl Abort,
+    heap: &Heap,
+    memory: A,
+    (room, full): (usize, u64),
+) {
+    let set = set_with(rt, memory, room);
+    heap.refuse(0, u64::MAX);
+    let mut handle = set.handle();
+    assert_same(rt, fill(&mut handle, 0, full, 1), Tally::of(full, 0));
+    assert_same(rt, heap.refusals_left(), u64::MAX - 16);
+    assert_same(rt, insert(&mut handle, full).0, InsertEnd::Refused);
+    assert_same(rt, heap.refusals_left(), u64::MAX - 17);
+}
+
 #[test]
 fn a_refused_growth_is_asked_for_now_and_then(rt: HostRuntime) {
     for (room, full) in FILLED {
         let heap = without_growth(rt.alloc(), room.saturating_mul(2));
-        let set = set_with(&rt, &heap, room);
-        heap.refuse(0, u64::MAX);
-        let mut handle = set.handle();
-        assert_same(&rt, fill(&mut handle, 0, full, 1), Tally::of(full, 0));
-        assert_same(&rt, heap.refusals_left(), u64::MAX - 16);
-        assert_same(&rt, insert(&mut handle, full).0, InsertEnd::Refused);
-        assert_same(&rt, heap.refusals_left(), u64::MAX - 17);
-        drop(handle);
-        drop(set);
+        assert_asks_now_and_then(&rt, &heap, &heap, (room, full));
         assert_none_out(&rt, &heap);
     }
 }
 
 /// Returns a set of 32 buckets, all of which are filled, since its growth was refused.
-pub(crate) fn full_set<'h>(rt: &impl Abort, heap: &'h Heap) -> Numbers<'h> {
-    let set = set_with(rt, heap, 16);
+pub(crate) fn full_set<A: Low + Copy>(rt: &impl Abort, heap: &Heap, memory: A) -> NumberSet<A> {
+    let set = set_with(rt, memory, 16);
     heap.refuse(0, u64::MAX);
     let tally = fill(&mut set.handle(), 0, 32, 1);
     assert_same(rt, tally, Tally::of(32, 0));
     set
 }
 
-/// Checks that a set whose growth is refused fills each bucket, and that it then returns new values and finds each entry.
+/// Asserts that a set whose growth is refused fills each bucket, and that it then returns new values and finds each entry.
+fn assert_filled<A: Low + Copy>(rt: &impl Abort, heap: &Heap, memory: A) {
+    let set = full_set(rt, heap, memory);
+    let mut handle = set.handle();
+    for _again in 0..3 {
+        assert_same(rt, insert(&mut handle, 32), (InsertEnd::Refused, None));
+        assert_has(rt, &mut handle, 32);
+    }
+    heap.refuse(0, 0);
+    assert_same(rt, insert(&mut handle, 32).0, InsertEnd::Placed);
+    assert_has(rt, &mut handle, 33);
+}
+
 #[test]
 fn a_set_that_cannot_grow_is_filled(rt: HostRuntime) {
     let heap = without_growth(rt.alloc(), 32);
-    let set = full_set(&rt, &heap);
-    let mut handle = set.handle();
-    for _again in 0..3 {
-        assert_same(&rt, insert(&mut handle, 32), (InsertEnd::Refused, None));
-        assert_has(&rt, &mut handle, 32);
-    }
-    heap.refuse(0, 0);
-    assert_same(&rt, insert(&mut handle, 32).0, InsertEnd::Placed);
-    assert_has(&rt, &mut handle, 33);
+    assert_filled(&rt, &heap, &heap);
+    assert_none_out(&rt, &heap);
 }
 
-/// Checks that a look-up or an insert that finds an entry makes no request for memory.
+/// Asserts that a look-up or an insert that finds an entry makes no request for memory.
+fn assert_found_without_memory<A: Low + Copy>(rt: &impl Abort, heap: &Heap, memory: A) {
+    let set = set_with(rt, memory, 0);
+    assert_same(rt, fill(&mut set.handle(), 0, 50, 1), Tally::of(50, 0));
+    let granted = heap.granted();
+    heap.refuse(0, u64::MAX);
+    assert_same(rt, fill(&mut set.handle(), 0, 50, 1), Tally::of(0, 50));
+    assert_has(rt, &mut set.handle(), 50);
+    assert_same(rt, heap.granted(), granted);
+    assert_same(rt, heap.refusals_left(), u64::MAX);
+}
+
 #[test]
 fn what_is_found_needs_no_memory(rt: HostRuntime) {
     let heap = counted(rt.alloc());
-    let set = set_with(&rt, &heap, 0);
-    assert_same(&rt, fill(&mut set.handle(), 0, 50, 1), Tally::of(50, 0));
-    let granted = heap.granted();
-    heap.refuse(0, u64::MAX);
-    assert_same(&rt, fill(&mut set.handle(), 0, 50, 1), Tally::of(0, 50));
-    assert_has(&rt, &mut set.handle(), 50);
-    assert_same(&rt, heap.granted(), granted);
-    assert_same(&rt, heap.refusals_left(), u64::MAX);
+    assert_found_without_memory(&rt, &heap, &heap);
+    assert_none_out(&rt, &heap);
 }
 
 /// The room that a set is to have, and how many refusals are left afterwards. Only a set with room for 2^31 entries requests memory.
@@ -238,15 +281,25 @@ const TOO_MANY: [(usize, u64); 3] = [
     (usize::MAX, u64::MAX),
 ];
 
+/// Asserts that a set with so much room is refused, and how many refusals are left.
+fn assert_too_many<A: Low + Copy>(
+    rt: &impl Abort,
+    heap: &Heap,
+    memory: A,
+    (room, left): (usize, u64),
+) {
+    heap.refuse(0, u64::MAX);
+    let made: Result<NumberSet<A>, _> = SharedSet::with_capacity(memory, room);
+    assert!(rt; made.is_err());
+    assert_same(rt, heap.refusals_left(), left);
+    assert_none_out(rt, heap);
+}
+
 /// Checks that room for more than 2^31 entries, half of the greatest number of buckets, is refused without a request for memory.
 #[test]
 fn too_many_entries_are_refused(rt: HostRuntime) {
     let heap = Refusing::new(rt.alloc(), Rule::new(1 << 30, usize::MAX, 0, u64::MAX));
-    for (room, left) in TOO_MANY {
-        heap.refuse(0, u64::MAX);
-        let made: Result<Numbers<'_>, _> = SharedSet::with_capacity(&heap, room);
-        assert!(rt; made.is_err());
-        assert_same(&rt, heap.refusals_left(), left);
-        assert_none_out(&rt, &heap);
+    for row in TOO_MANY {
+        assert_too_many(&rt, &heap, &heap, row);
     }
 }

@@ -2,13 +2,14 @@
 ghost use Rattle.std.specs.Prelude.{◌≡◌};
 
 use super::caller::{
-    Heap, InsertEnd, Numbering, Numbers, assert_none_out, assert_same, insert, set_with,
+    Heap, InsertEnd, NumberHandle, NumberSet, assert_none_out, assert_same, insert, set_with,
 };
 use rand_core::{Rng, SeedableRng};
 use rand_xoshiro::SplitMix64;
 use std::alloc::{AllocError, Global};
 use std::process::Abort;
 use std::test::Fail;
+use table_cell::Low;
 use testkit::refusing::{Refusing, Rule};
 
 /// How many calls a run has.
@@ -27,10 +28,10 @@ fn draw(numbers: &mut SplitMix64, bound: u64) -> u64 {
 
 /// Inserts the number into the set and into the list. Asserts that it is refused only if a request was refused and no entry is equal.
 /// `Err`: no memory.
-fn insert_into_both(
+fn insert_into_both<A: Low + Copy>(
     rt: &impl Abort,
     heap: &Heap,
-    handle: &mut Numbering<'_, '_>,
+    handle: &mut NumberHandle<'_, A>,
     list: &mut Vec<u64>,
     number: u64,
 ) -> Result<(), AllocError>
@@ -49,18 +50,23 @@ fn insert_into_both(
 }
 
 /// Asserts that the handle finds the number if and only if the list has it.
-fn assert_agrees(rt: &impl Abort, handle: &mut Numbering<'_, '_>, list: &Vec<u64>, number: u64)
+fn assert_agrees<A: Low + Copy>(
+    rt: &impl Abort,
+    handle: &mut NumberHandle<'_, A>,
+    list: &Vec<u64>,
+    number: u64,
+)
     ensures { handle.new.of ≡ handle.old.of }
 {
     assert_same(rt, handle.contains(&number), list.contains(&number));
 }
 
 /// Draws a call of the first handle, and makes it. By one of the calls the handle learns what the other one knows. `Err`: no memory.
-fn call<'s, 'h>(
+fn call<'s, A: Low + Copy>(
     rt: &impl Abort,
     heap: &Heap,
-    handle: &mut Numbering<'s, 'h>,
-    other: &Numbering<'s, 'h>,
+    handle: &mut NumberHandle<'s, A>,
+    other: &NumberHandle<'s, A>,
     list: &mut Vec<u64>,
     numbers: &mut SplitMix64,
 ) -> Result<(), AllocError>
@@ -77,11 +83,11 @@ fn call<'s, 'h>(
 }
 
 /// Makes drawn calls of two handles, which are made while the set is empty. Asserts that they agree with a list. `Err`: no memory.
-fn run(
+fn run<A: Low + Copy>(
     rt: &impl Abort,
     alloc: Global,
     heap: &Heap,
-    set: &Numbers<'_>,
+    set: &NumberSet<A>,
     seed: u64,
 ) -> Result<(), AllocError> {
     let mut numbers = SplitMix64::seed_from_u64(seed);
@@ -104,16 +110,28 @@ fn run(
     Ok(())
 }
 
+/// Makes a set with this room, and then a run of two handles, in which at most `refused` requests are refused. Asserts that the set does
+/// what a list does. `Err`: no memory.
+fn run_on<A: Low + Copy>(
+    rt: &impl Abort,
+    alloc: Global,
+    heap: &Heap,
+    memory: A,
+    (room, refused): (usize, u64),
+    seed: u64,
+) -> Result<(), AllocError> {
+    let set = set_with(rt, memory, room);
+    heap.refuse(0, refused);
+    run(rt, alloc, heap, &set, seed)
+}
+
 #[test]
 fn drawn_runs_answer_as_a_list(rt: HostRuntime) -> Result<(), Fail> {
-    for (room, refused) in RUNS {
+    for row in RUNS {
         for seed in 0u64..6 {
             let rule = Rule::new(0, usize::MAX, 0, 0).drawn(seed, 4);
             let heap = Refusing::new(rt.alloc(), rule);
-            let set = set_with(&rt, &heap, room);
-            heap.refuse(0, refused);
-            run(&rt, rt.alloc(), &heap, &set, seed)?;
-            drop(set);
+            run_on(&rt, rt.alloc(), &heap, &heap, row, seed)?;
             assert_none_out(&rt, &heap);
         }
     }

@@ -2,14 +2,16 @@
 ghost use Rattle.std.specs.Prelude.{◌≡◌};
 
 use super::caller::{
-    Heap, Numbers, Tally, assert_has, assert_none_out, assert_same, counted, fill, first_missed,
+    NumberSet, Tally, assert_has, assert_none_out, assert_same, counted, fill, first_missed,
     set_with,
 };
 use shared_set::Known;
 use std::alloc::{AllocError, Global};
+use std::process::Abort;
 use std::sync::{OnceLock, Wait};
 use std::test::Fail;
 use std::thread::{Threads, yield_now};
+use table_cell::Low;
 use table_terms::law::NumberLaw;
 use testkit::counting::tally::{Work, at_once};
 
@@ -24,17 +26,17 @@ const LOOKS: u32 = 1 << 26;
 
 /// What is known of a set, as one thread sends it to another.
 #[derive(Drop)]
-struct Message<'s, 'h> {
-    set: &'s Numbers<'h>,
-    known: Known<u64, NumberLaw, &'h Heap>,
+struct Message<'s, A: Low + Copy> {
+    set: &'s NumberSet<A>,
+    known: Known<u64, NumberLaw, A>,
     ghost of: { known.of ≡ set.now.of },
 }
 
 /// The place for a message.
-type Place<'s, 'h> = OnceLock<Message<'s, 'h>>;
+type Place<'s, A> = OnceLock<Message<'s, A>>;
 
 /// Places the numbers of message `at`, and returns the message. `None` means that a number wasn't placed.
-fn message_of<'s, 'h>(set: &'s Numbers<'h>, at: u64) -> Option<Message<'s, 'h>> {
+fn message_of<'s, A: Low + Copy>(set: &'s NumberSet<A>, at: u64) -> Option<Message<'s, A>> {
     let mut handle = set.handle();
     let first = at.wrapping_mul(NUMBERS);
     let tally = fill(&mut handle, first, first.wrapping_add(NUMBERS), 1);
@@ -46,7 +48,7 @@ fn message_of<'s, 'h>(set: &'s Numbers<'h>, at: u64) -> Option<Message<'s, 'h>> 
 }
 
 /// Sends each message once its numbers are placed. Returns how many were sent.
-fn send<'s, 'h>(set: &'s Numbers<'h>, places: &[Place<'s, 'h>]) -> u64 {
+fn send<'s, A: Low + Copy>(set: &'s NumberSet<A>, places: &[Place<'s, A>]) -> u64 {
     let mut sent = 0u64;
     for (at, room) in places.iter().enumerate() {
         if let Some(message) = message_of(set, at as u64)
@@ -59,7 +61,7 @@ fn send<'s, 'h>(set: &'s Numbers<'h>, places: &[Place<'s, 'h>]) -> u64 {
 }
 
 /// Returns whether a handle that hears the message finds its numbers.
-fn finds(message: &Message<'_, '_>, at: u64) -> bool {
+fn finds<A: Low + Copy>(message: &Message<'_, A>, at: u64) -> bool {
     let mut handle = message.set.handle();
     handle.hear(&message.known.again());
     let first = at.wrapping_mul(NUMBERS);
@@ -68,7 +70,7 @@ fn finds(message: &Message<'_, '_>, at: u64) -> bool {
 }
 
 /// Waits for the message. `None` means that it didn't come.
-fn wait<'p, 's, 'h>(room: &'p Place<'s, 'h>) -> Option<&'p Message<'s, 'h>> {
+fn wait<'p, 's, A: Low + Copy>(room: &'p Place<'s, A>) -> Option<&'p Message<'s, A>> {
     for _look in 0..LOOKS {
         if let Some(message) = room.get() {
             return Some(message);
@@ -79,7 +81,7 @@ fn wait<'p, 's, 'h>(room: &'p Place<'s, 'h>) -> Option<&'p Message<'s, 'h>> {
 }
 
 /// Waits for each message and hears it, until one doesn't come. Returns how many messages came and had all their numbers found.
-fn hear(places: &[Place<'_, '_>]) -> u64 {
+fn hear<A: Low + Copy>(places: &[Place<'_, A>]) -> u64 {
     let mut found = 0u64;
     for (at, room) in places.iter().enumerate() {
         let Some(message) = wait(room) else {
@@ -94,13 +96,13 @@ fn hear(places: &[Place<'_, '_>]) -> u64 {
 
 /// A talk of two threads: the first one sends messages while the second one hears them.
 #[derive(Drop)]
-struct Talk<'p, 's, 'h> {
-    set: &'s Numbers<'h>,
-    places: &'p [Place<'s, 'h>],
+struct Talk<'p, 's, A: Low + Copy> {
+    set: &'s NumberSet<A>,
+    places: &'p [Place<'s, A>],
 }
 
 /// Each message that is sent counts as placed, and each that is heard as found.
-impl Work for Talk<'_, '_, '_> {
+impl<A: Low + Copy> Work for Talk<'_, '_, A> {
     fn work<R: Wait>(&self, _rt: &R, thread: u64) -> Tally {
         if thread == 0 {
             Tally::of(send(self.set, self.places), 0)
@@ -111,8 +113,8 @@ impl Work for Talk<'_, '_, '_> {
 }
 
 /// Returns the places for the messages. `Err`: no memory.
-fn places_for<'s, 'h>(alloc: Global) -> Result<Vec<Place<'s, 'h>>, AllocError> {
-    let mut places: Vec<Place<'s, 'h>> = Vec::new(alloc);
+fn places_for<'s, A: Low + Copy>(alloc: Global) -> Result<Vec<Place<'s, A>>, AllocError> {
+    let mut places: Vec<Place<'s, A>> = Vec::new(alloc);
     for _message in 0..MESSAGES {
         places.push(OnceLock::new())?;
     }
@@ -120,12 +122,12 @@ fn places_for<'s, 'h>(alloc: Global) -> Result<Vec<Place<'s, 'h>>, AllocError> {
 }
 
 /// Lets two threads talk. Returns how many messages were sent, and how many came and had all their numbers found. `Err`: no memory.
-fn let_talk<'s, 'h, R: Threads + Wait + Sync>(
+fn let_talk<'s, R: Threads + Wait + Sync, A: Low + Copy + Send + Sync>(
     rt: &R,
     alloc: Global,
-    set: &'s Numbers<'h>,
+    set: &'s NumberSet<A>,
 ) -> Result<Tally, AllocError> {
-    let places: Vec<Place<'s, 'h>> = places_for(alloc)?;
+    let places: Vec<Place<'s, A>> = places_for(alloc)?;
     let talk = Talk {
         set,
         places: places.as_slice(),
@@ -133,14 +135,23 @@ fn let_talk<'s, 'h, R: Threads + Wait + Sync>(
     Ok(at_once(rt, alloc, 2, &talk))
 }
 
+/// Lets two threads talk about a set over this memory. Asserts that each message came and had all its numbers found. `Err`: no memory.
+fn assert_heard<R: Threads + Wait + Abort + Sync, A: Low + Copy + Send + Sync>(
+    rt: &R,
+    alloc: Global,
+    memory: A,
+) -> Result<(), AllocError> {
+    let set = set_with(rt, memory, 0);
+    let tally = let_talk(rt, alloc, &set)?;
+    assert_same(rt, tally, Tally::of(MESSAGES, MESSAGES));
+    assert_has(rt, &mut set.handle(), MESSAGES.wrapping_mul(NUMBERS));
+    Ok(())
+}
+
 #[test]
 fn a_thread_hears_what_another_knows_while_both_run(rt: HostRuntime) -> Result<(), Fail> {
     let heap = counted(rt.alloc());
-    let set = set_with(&rt, &heap, 0);
-    let tally = let_talk(&rt, rt.alloc(), &set)?;
-    assert_same(&rt, tally, Tally::of(MESSAGES, MESSAGES));
-    assert_has(&rt, &mut set.handle(), MESSAGES.wrapping_mul(NUMBERS));
-    drop(set);
+    assert_heard(&rt, rt.alloc(), &heap)?;
     assert_none_out(&rt, &heap);
     Ok(())
 }
