@@ -8,13 +8,13 @@ use Rattle.testkit_replay.specs.declared.running.Steps.{Steps}
 use Rattle.testkit_replay.specs.declared.running.Steps.TheVariants.{Insert, Lookup}
 use Rattle.testkit_replay.specs.declared.running.Calls.{Calls}
 
-module _ {E H F : Type 0} (CallE : E → Type 0) (CallH : H → Type 0) (CallF : F → Type 0)
+module _ {A E H F : Type 0} (CallE : E → Type 0) (CallH : H → Type 0) (CallF : F → Type 0)
     (says : SharedFn E (Bor Item × (Bor Item × Unit {0})) Bool) where
   -- the closures of these steps can be called
-  abbrev pub MayGo : Steps E H F → Type 0
+  abbrev pub MayGo : Steps A E H F → Type 0
   MayGo (Insert call) = MayStep CallE CallH (λ b. b.value) says call
   MayGo (Lookup call) = CallF call.test
 
   -- the closures of these calls can be called
-  abbrev pub IsReady : Calls E H F → Type 0
+  abbrev pub IsReady : Calls A E H F → Type 0
   IsReady calls = CallE calls.eq × CallH calls.hash_fn × CallF calls.test × All MayGo calls.begun.items

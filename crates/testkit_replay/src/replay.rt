@@ -9,6 +9,7 @@ use crate::running::{Stepped, Table, Took};
 use crate::schedules::Ask;
 use crate::script::Script;
 use std::alloc::Global;
+use table_cell::Low;
 use table_core::call::{CallState, Phase};
 use table_core::event::Event;
 use table_core::reply::{Finished, Reply};
@@ -26,7 +27,7 @@ const READS: u64 = 1 << 12;
 pub type Refusals = (u64, u64);
 
 /// Makes a table without a generation. Its first generation will have `first` buckets.
-pub(crate) fn new_table(memory: &Refusing<Global>, first: u64) -> Table<'_>
+pub(crate) fn new_table<A: Low + Copy>(memory: A, first: u64) -> Table<A>
     requires { IsFirstCapacity first }
 {
     LockFreeRawTable::with_first_capacity(memory, first as usize)
@@ -37,29 +38,29 @@ pub(crate) fn any_request() -> Rule {
     Rule::new(0, usize::MAX, 0, 0)
 }
 
-/// A table, its memory, and the capacity of its first generation.
+/// A table, the heap that can refuse its requests, and the capacity of its first generation.
 #[derive(Clone, Copy)]
-pub(crate) struct Ground<'a, 'm> {
+pub(crate) struct Ground<'a, A: Low + Copy> {
     pub(crate) alloc: Global,
     pub(crate) first: u64,
-    pub(crate) memory: &'m Refusing<Global>,
-    pub(crate) table: &'a Table<'m>,
+    pub(crate) heap: &'a Refusing<Global>,
+    pub(crate) table: &'a Table<A>,
 }
 
-impl<'a, 'm> Ground<'a, 'm> {
-    /// Makes a ground. `memory` is the allocator of `table`.
+impl<'a, A: Low + Copy> Ground<'a, A> {
+    /// Makes a ground. `heap` can refuse the requests of `table`.
     pub(crate) fn new(
         alloc: Global,
+        heap: &'a Refusing<Global>,
         first: u64,
-        memory: &'m Refusing<Global>,
-        table: &'a Table<'m>,
+        table: &'a Table<A>,
     ) -> Self
         ensures { result.first ≡ first }
     {
         Ground {
             alloc,
             first,
-            memory,
+            heap,
             table,
         }
     }
@@ -113,8 +114,8 @@ struct Call {
 
 /// A schedule that is running on a table and on the machine. A call of the table has an index: its place among those that have begun.
 #[derive(Drop)]
-pub struct Replay<'a, 'm> {
-    pub(crate) ground: Ground<'a, 'm>,
+pub struct Replay<'a, A: Low + Copy> {
+    pub(crate) ground: Ground<'a, A>,
     pub(crate) script: &'a Script,
     machine: State,
     calls: Vec<Call>,
@@ -128,9 +129,9 @@ pub struct Replay<'a, 'm> {
     refusals: u64,
 }
 
-impl<'a, 'm> Replay<'a, 'm> {
+impl<'a, A: Low + Copy> Replay<'a, A> {
     /// Makes a replay without calls, on a table without a generation. No rule refuses the machine's requests for memory.
-    pub(crate) fn new(ground: Ground<'a, 'm>, script: &'a Script) -> Self
+    pub(crate) fn new(ground: Ground<'a, A>, script: &'a Script) -> Self
         requires { IsFirstCapacity ground.first }
     {
         Replay {
@@ -232,13 +233,13 @@ impl<'a, 'm> Replay<'a, 'm> {
         let class = call.map_or(0, |call: &Call| call.class);
         self.script.begin(accepted, hash, class);
         self.stepping = index;
-        self.refusals = self.ground.memory.refusals_left();
+        self.refusals = self.ground.heap.refusals_left();
         Turn::Step(index)
     }
 
     /// Returns a turn in which the call at this index takes a step, with these refusals.
     pub(crate) fn step_refused(&mut self, index: usize, refusals: Refusals) -> Turn {
-        self.ground.memory.refuse(refusals.0, refusals.1);
+        self.ground.heap.refuse(refusals.0, refusals.1);
         // If the table calls no closure, the event says yes. If the machine has to ask about an entry there, it accepts it and differs from
         // the table.
         self.step(index, true, 0)
@@ -250,7 +251,7 @@ impl<'a, 'm> Replay<'a, 'm> {
         let answers = Answers {
             accepted: self.script.accepted(),
             hash: self.script.hash(),
-            granted: self.ground.memory.refusals_left() == self.refusals,
+            granted: self.ground.heap.refusals_left() == self.refusals,
         };
         let Some(call) = self.calls.get(self.stepping) else {
             return Ok(());
@@ -365,7 +366,10 @@ fn same_reply(call: u64, table: Option<Said>, machine: Option<Said>) -> Result<(
 }
 
 /// Checks that a length or a walk has the same reply from the machine as from the table. `Err`: the replies differ.
-fn compare_whole(table: &Table<'_>, finished: &Option<Finished>) -> Result<(), ReplayFault> {
+fn compare_whole<A: Low + Copy>(
+    table: &Table<A>,
+    finished: &Option<Finished>,
+) -> Result<(), ReplayFault> {
     let Some(finished) = finished else {
         return Ok(());
     };
@@ -389,7 +393,7 @@ fn has_reply(begins: Event, finished: &Option<Finished>) -> bool {
 }
 
 /// Returns whether a walk over the table returns these entries in this order.
-fn shows(table: &Table<'_>, entries: &[u64]) -> bool {
+fn shows<A: Low + Copy>(table: &Table<A>, entries: &[u64]) -> bool {
     let mut left = entries.iter();
     for entry in table.iter() {
         if left.next() != Some(&entry.number) {

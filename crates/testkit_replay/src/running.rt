@@ -7,12 +7,13 @@ use crate::item::{Item, Said, reply_of_insert, reply_of_lookup};
 use crate::replay::{Ground, Replay, Turn, new_table};
 use crate::script::Script;
 use std::alloc::Global;
+use table_cell::Low;
 use table_core::call::CallState;
 use table_shared::{InsertCall, LockFreeRawTable, LookupCall, Progress};
 use testkit::refusing::{Refusing, Rule};
 
-/// A table of the values of a schedule. Its requests for memory can be refused.
-pub type Table<'m> = LockFreeRawTable<Box<Item>, &'m Refusing<Global>>;
+/// A table of the values of a schedule.
+pub type Table<A> = LockFreeRawTable<Box<Item>, A>;
 
 /// The result of a step.
 #[derive(Clone, Copy, PartialEq)]
@@ -35,19 +36,23 @@ pub struct Stepped {
 /// A schedule. It says turn by turn what the table does.
 pub trait Schedule {
     /// Returns the next turn. `Err`: a fault, which ends the replay.
-    fn next(&mut self, replay: &mut Replay<'_, '_>) -> Result<Turn, ReplayFault>;
+    fn next<A: Low + Copy>(&mut self, replay: &mut Replay<'_, A>) -> Result<Turn, ReplayFault>;
 
     /// Takes the result of the step that was the last turn. `Err`: the result isn't the expected one.
-    fn hear(&mut self, replay: &mut Replay<'_, '_>, stepped: Stepped) -> Result<(), ReplayFault>;
+    fn hear<A: Low + Copy>(
+        &mut self,
+        replay: &mut Replay<'_, A>,
+        stepped: Stepped,
+    ) -> Result<(), ReplayFault>;
 }
 
 /// A call that runs one step at a time.
-pub enum Steps<'a, 'm, E, H, F> {
-    Insert(InsertCall<'a, Box<Item>, &'m Refusing<Global>, E, H>),
-    Lookup(LookupCall<'a, Box<Item>, &'m Refusing<Global>, F>),
+pub enum Steps<'a, A: Low + Copy, E, H, F> {
+    Insert(InsertCall<'a, Box<Item>, A, E, H>),
+    Lookup(LookupCall<'a, Box<Item>, A, F>),
 }
 
-impl<E: Drop, H: Drop, F: Drop> Drop for Steps<'_, '_, E, H, F> {
+impl<A: Low + Copy, E: Drop, H: Drop, F: Drop> Drop for Steps<'_, A, E, H, F> {
     fn drop(self) {
         match self {
             Steps::Insert(_call) => (),
@@ -56,9 +61,9 @@ impl<E: Drop, H: Drop, F: Drop> Drop for Steps<'_, '_, E, H, F> {
     }
 }
 
-impl<E: Fn(&Item, &Item) -> bool, H: Fn(&Item) -> u64, F: Fn(&Item) -> bool> Steps<
+impl<A: Low + Copy, E: Fn(&Item, &Item) -> bool, H: Fn(&Item) -> u64, F: Fn(&Item) -> bool> Steps<
     '_,
-    '_,
+    A,
     E,
     H,
     F,
@@ -98,25 +103,25 @@ fn took_lookup(progress: Progress<Option<&Item>>) -> Took {
 
 /// The calls of a schedule, in the order in which they began, and the closures that they call.
 #[derive(Drop)]
-pub struct Calls<'a, 'm, E, H, F> {
-    table: &'a Table<'m>,
+pub struct Calls<'a, A: Low + Copy, E, H, F> {
+    table: &'a Table<A>,
     eq: E,
     hash_fn: H,
     test: F,
-    begun: Vec<Steps<'a, 'm, E, H, F>>,
+    begun: Vec<Steps<'a, A, E, H, F>>,
 }
 
 impl<
     'a,
-    'm,
+    A: Low + Copy,
     E: Fn(&Item, &Item) -> bool + Copy,
     H: Fn(&Item) -> u64 + Copy,
     F: Fn(&Item) -> bool + Copy,
-> Calls<'a, 'm, E, H, F> {
+> Calls<'a, A, E, H, F> {
     /// Runs the turns of a schedule to its end. `Err`: the first fault.
     pub fn run<S: Schedule>(
         &mut self,
-        replay: &mut Replay<'_, '_>,
+        replay: &mut Replay<'_, A>,
         schedule: &mut S,
     ) -> Result<(), ReplayFault>
         requires ready { IsReady E.IsAlwaysCallable H.IsAlwaysCallable F.IsAlwaysCallable E.Fn
@@ -142,7 +147,7 @@ impl<
     }
 
     /// Adds this call, which has begun. `Err`: no memory.
-    fn add(&mut self, call: Steps<'a, 'm, E, H, F>) -> Result<(), ReplayFault>
+    fn add(&mut self, call: Steps<'a, A, E, H, F>) -> Result<(), ReplayFault>
         requires ready { IsReady E.IsAlwaysCallable H.IsAlwaysCallable F.IsAlwaysCallable E.Fn
             self.old }
         requires may_go { MayGo E.IsAlwaysCallable H.IsAlwaysCallable F.IsAlwaysCallable E.Fn call }
@@ -179,9 +184,23 @@ pub(crate) fn run_schedule<S: Schedule>(
 ) -> Result<(), ReplayFault>
     requires { IsFirstCapacity first }
 {
-    let memory = Refusing::new(alloc, rule);
-    let table = new_table(&memory, first);
-    let mut replay = Replay::new(Ground::new(alloc, first, &memory, &table), script);
+    let heap = Refusing::new(alloc, rule);
+    run_over(alloc, &heap, &heap, first, script, schedule)
+}
+
+/// Runs a schedule on a table over this memory, and on the machine. `heap` can refuse the memory's requests. `Err`: the first fault.
+fn run_over<S: Schedule, A: Low + Copy>(
+    alloc: Global,
+    heap: &Refusing<Global>,
+    memory: A,
+    first: u64,
+    script: &Script,
+    schedule: &mut S,
+) -> Result<(), ReplayFault>
+    requires { IsFirstCapacity first }
+{
+    let table = new_table(memory, first);
+    let mut replay = Replay::new(Ground::new(alloc, heap, first, &table), script);
     let mut calls = Calls {
         table: &table,
         eq: |new: &Item, entry: &Item| script.says(new.class, entry),

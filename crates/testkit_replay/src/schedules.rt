@@ -7,6 +7,7 @@ use crate::replay::{Refusals, Replay, Turn, any_request};
 use crate::running::{Schedule, Stepped, Took, run_schedule};
 use crate::script::{Manner, Script};
 use std::alloc::Global;
+use table_cell::Low;
 use table_core::call::Phase;
 use table_core::event::Event;
 
@@ -68,7 +69,7 @@ pub(crate) struct Legs<'l> {
 
 impl Legs<'_> {
     /// Goes on to the next leg, and returns the turn by which it begins. `Err`: a fault.
-    fn go_on(&mut self, replay: &mut Replay<'_, '_>) -> Result<Turn, ReplayFault> {
+    fn go_on<A: Low + Copy>(&mut self, replay: &mut Replay<'_, A>) -> Result<Turn, ReplayFault> {
         let Some((leg, after)) = self.after.split_first() else {
             return replay.end();
         };
@@ -88,7 +89,7 @@ impl Legs<'_> {
 }
 
 impl Schedule for Legs<'_> {
-    fn next(&mut self, replay: &mut Replay<'_, '_>) -> Result<Turn, ReplayFault> {
+    fn next<A: Low + Copy>(&mut self, replay: &mut Replay<'_, A>) -> Result<Turn, ReplayFault> {
         match self.current {
             Leg::Run(index, steps) if steps != 0 => Ok(replay.step_refused(index, (0, 0))),
             Leg::RunAll(_, 0) if !replay.all_ended() => Err(ReplayFault::Unfinished),
@@ -97,7 +98,11 @@ impl Schedule for Legs<'_> {
         }
     }
 
-    fn hear(&mut self, replay: &mut Replay<'_, '_>, stepped: Stepped) -> Result<(), ReplayFault> {
+    fn hear<A: Low + Copy>(
+        &mut self,
+        replay: &mut Replay<'_, A>,
+        stepped: Stepped,
+    ) -> Result<(), ReplayFault> {
         let moved = stepped.took == Took::Moved;
         self.current = match self.current {
             Leg::Event(event, _) => return hear_event(replay, event, stepped),
@@ -164,8 +169,8 @@ fn draw_steps(
 
 /// Follows an event. If its call has begun and isn't on the table, only the machine takes the event. If the call can't take it there, the
 /// machine mustn't either. `Err`: a fault.
-fn follow_event(
-    replay: &mut Replay<'_, '_>,
+fn follow_event<A: Low + Copy>(
+    replay: &mut Replay<'_, A>,
     event: Event,
     class: u64,
 ) -> Result<Turn, ReplayFault> {
@@ -186,13 +191,13 @@ fn follow_event(
     }
     let answers = answers_of(event);
     let refused = u64::from(!answers.granted);
-    replay.ground.memory.refuse(0, refused);
+    replay.ground.heap.refuse(0, refused);
     Ok(replay.step(index, answers.accepted, answers.hash))
 }
 
 /// Takes the result of the step that is this event. `Err`: the machine does something else, or the step is another one.
-fn hear_event(
-    replay: &mut Replay<'_, '_>,
+fn hear_event<A: Low + Copy>(
+    replay: &mut Replay<'_, A>,
     event: Event,
     stepped: Stepped,
 ) -> Result<(), ReplayFault> {

@@ -22,6 +22,7 @@ use std::alloc::Global;
 use std::mem::swap;
 use std::sync::Wait;
 use std::thread::Threads;
+use table_cell::Low;
 use testkit::refusing::Refusing;
 
 /// The number of calls of each thread in an interleaving that is drawn.
@@ -115,12 +116,26 @@ pub fn run_whole<R: Threads + Wait + Sync>(
     let script = Script::new(manner, seed);
     let mut rehearsal = Rehearsal::new(alloc, &script, plan);
     run_schedule(alloc, first, any_request(), &script, &mut rehearsal)?;
-    let memory = Refusing::new(alloc, any_request().in_turns(LOOKS));
-    let table = new_table(&memory, first);
-    play(rt, Ground::new(alloc, first, &memory, &table), &rehearsal)?;
+    let heap = Refusing::new(alloc, any_request().in_turns(LOOKS));
+    play_over(rt, alloc, &heap, &heap, first, &rehearsal)?;
     let mut ended = Vec::new(alloc);
     swap(&mut ended, &mut rehearsal.ended);
     Ok(ended)
+}
+
+/// Repeats what was rehearsed, on a table over this memory. `heap` can refuse the memory's requests. `Err`: the first fault.
+fn play_over<R: Threads + Wait + Sync, A: Low + Copy + Send + Sync>(
+    rt: &R,
+    alloc: Global,
+    heap: &Refusing<Global>,
+    memory: A,
+    first: u64,
+    rehearsal: &Rehearsal<'_>,
+) -> Result<(), ReplayFault>
+    requires { IsFirstCapacity first }
+{
+    let table = new_table(memory, first);
+    play(rt, Ground::new(alloc, heap, first, &table), rehearsal)
 }
 
 /// Runs the interleaving of a seed, of whole calls of two threads. `Err`: the first fault.

@@ -4,6 +4,7 @@ ghost use Rattle.test_parts.specs.Known.{Knows};
 use super::counting::{Fared, Numbers, Seen, made, push};
 use crate::same::assert_same;
 use std::alloc::Global;
+use std::process::Abort;
 use std::sync::Arc;
 use std::sync::atomic::AtomicU64;
 use std::sync::atomic::Ordering::SeqCst;
@@ -63,22 +64,34 @@ fn values_come_out_in_the_order_of_slots(rt: HostRuntime) -> Result<(), Fail> {
     Ok(())
 }
 
+/// Appends three values to a chain over this memory while the heap refuses the first one's request. Asserts that only this value is
+/// refused, and that each value is dropped once. `Err`: no chain, or no memory.
+fn assert_first_refused<A: Low + Copy>(
+    rt: &impl Abort,
+    heap: &Refusing<Global>,
+    memory: A,
+    drops: &Arc<AtomicU64>,
+) -> Result<(), Fail> {
+    let chain = made(memory, drops.clone()?).ok_or("a chain")?;
+    let mut seen = chain.start();
+    heap.refuse(0, 1);
+    let pushed = pushed(&chain, &mut seen, drops)?;
+    assert_same(
+        rt,
+        pushed,
+        (Fared::Refused, Fared::Shown(2), Fared::Shown(3)),
+    );
+    assert_same(rt, drops.load(SeqCst), 1);
+    drop(chain);
+    assert_same(rt, drops.load(SeqCst), 4);
+    Ok(())
+}
+
 #[test]
 fn a_value_without_memory_is_refused(rt: HostRuntime) -> Result<(), Fail> {
     let drops = Arc::new(rt.alloc(), AtomicU64::new(0))?;
     let heap = Refusing::new(rt.alloc(), Rule::new(0, usize::MAX, 0, 0));
-    let chain = made(&heap, drops.clone()?).ok_or("a chain")?;
-    let mut seen = chain.start();
-    heap.refuse(0, 1);
-    let pushed = pushed(&chain, &mut seen, &drops)?;
-    assert_same(
-        &rt,
-        pushed,
-        (Fared::Refused, Fared::Shown(2), Fared::Shown(3)),
-    );
-    assert_same(&rt, drops.load(SeqCst), 1);
-    drop(chain);
-    assert_same(&rt, drops.load(SeqCst), 4);
+    assert_first_refused(&rt, &heap, &heap, &drops)?;
     assert_same(&rt, heap.granted(), heap.given_back());
     Ok(())
 }

@@ -6,11 +6,12 @@ use std::process::Abort;
 use std::sync::atomic::{AtomicU64, Ordering};
 use std::sync::{Arc, Wait};
 use std::test::Fail;
+use table_cell::Low;
 use table_shared::{InsertCall, LockFreeRawTable, Progress};
 use testkit::counting::Counting;
 use testkit::refusing::{Refusing, Rule};
 
-type Table<'a> = LockFreeRawTable<Box<Counting>, &'a Refusing<Global>>;
+type Table<A> = LockFreeRawTable<Box<Counting>, A>;
 
 /// An insert of a number into a table that has other entries. Each number is its own hash, and the first generation has 16 buckets. It is
 /// given by:
@@ -20,6 +21,9 @@ type Table<'a> = LockFreeRawTable<Box<Counting>, &'a Refusing<Global>>;
 /// - How many of its requests for memory are granted before those that are refused, and how many are refused.
 /// - The numbers of the step that places its value and of its last step.
 type Course = (u64, u64, Option<u64>, (u64, u64), (u64, u64));
+
+/// A course, and the number of steps after which its insert is dropped.
+type Cut<'c> = (&'c Course, u64);
 
 /// Returns the number of entries other than the value of this insert. Another value was placed meanwhile if `joined`.
 fn entries_with(course: &Course, joined: bool) -> u64 {
@@ -66,8 +70,8 @@ const COURSES: [Course; 10] = [
 ];
 
 /// Takes `times` steps, and returns whether the last of them ended the call.
-fn advance_times<'a, 'm, E: Fn(&Counting, &Counting) -> bool, H: Fn(&Counting) -> u64>(
-    call: &mut InsertCall<'a, Box<Counting>, &'m Refusing<Global>, E, H>,
+fn advance_times<A: Low + Copy, E: Fn(&Counting, &Counting) -> bool, H: Fn(&Counting) -> u64>(
+    call: &mut InsertCall<'_, Box<Counting>, A, E, H>,
     times: u64,
 ) -> bool
     requires may_step { MayStep E.IsAlwaysCallable H.IsAlwaysCallable (λ b. b.value) E.Fn call.old }
@@ -81,7 +85,7 @@ fn advance_times<'a, 'm, E: Fn(&Counting, &Counting) -> bool, H: Fn(&Counting) -
 }
 
 /// Returns whether an insert places the number.
-fn places<R: Wait>(rt: &R, table: &Table<'_>, value: Box<Counting>) -> bool {
+fn places<R: Wait, A: Low + Copy>(rt: &R, table: &Table<A>, value: Box<Counting>) -> bool {
     let number = value.number;
     matches!(
         table.insert(
@@ -96,36 +100,36 @@ fn places<R: Wait>(rt: &R, table: &Table<'_>, value: Box<Counting>) -> bool {
 }
 
 /// Returns whether a look-up finds the number.
-fn contains(table: &Table<'_>, number: u64) -> bool {
+fn contains<A: Low + Copy>(table: &Table<A>, number: u64) -> bool {
     table
         .lookup(number, |entry: &Counting| entry.number == number)
         .is_some()
 }
 
-/// Places the numbers below `entries`. Each growth beyond the first generation is refused. `Err`: no memory.
-fn fill<R: Wait + Abort>(
+/// Places the numbers below `entries`. Makes the heap refuse each growth beyond the first generation. `Err`: no memory.
+fn fill<R: Wait + Abort, A: Low + Copy>(
     rt: &R,
     alloc: Global,
-    table: &Table<'_>,
-    memory: &Refusing<Global>,
+    heap: &Refusing<Global>,
+    table: &Table<A>,
     entries: u64,
     drops: &Arc<AtomicU64>,
 ) -> Result<(), AllocError> {
     for number in 0..entries {
         if GROWS <= number {
-            memory.refuse(1, 1);
+            heap.refuse(1, 1);
         }
         let value = Box::new(alloc, Counting::new(number, drops.clone()?))?;
         assert!(rt; places(rt, table, value));
     }
-    memory.refuse(0, 0);
+    heap.refuse(0, 0);
     Ok(())
 }
 
 /// Takes `steps` steps of the course's insert, and drops it. Places the other number after the third step, if there is one.
-fn give_up_after<R: Wait + Abort>(
+fn give_up_after<R: Wait + Abort, A: Low + Copy>(
     rt: &R,
-    table: &Table<'_>,
+    table: &Table<A>,
     value: Box<Counting>,
     other: Option<Box<Counting>>,
     course: &Course,
@@ -173,9 +177,9 @@ fn assert_count(rt: &impl Abort, counted: u64, wanted: u64, steps: u64) {
 }
 
 /// Asserts that another value is placed and found after an insert was dropped, and that the table then has `entries` + 1 entries.
-fn assert_goes_on<R: Wait + Abort>(
+fn assert_goes_on<R: Wait + Abort, A: Low + Copy>(
     rt: &R,
-    table: &Table<'_>,
+    table: &Table<A>,
     value: Box<Counting>,
     entries: u64,
     steps: u64,
@@ -187,25 +191,25 @@ fn assert_goes_on<R: Wait + Abort>(
 }
 
 /// Drops the insert of the course after `steps` steps, and then places another number. Returns whether another value was placed meanwhile.
-/// `Err`: no memory.
-fn give_up_and_go_on<R: Wait + Abort>(
+/// The heap refuses the requests that the course names. `Err`: no memory.
+fn give_up_and_go_on<R: Wait + Abort, A: Low + Copy>(
     rt: &R,
     alloc: Global,
-    memory: &Refusing<Global>,
-    course: &Course,
-    steps: u64,
+    heap: &Refusing<Global>,
+    memory: A,
+    (course, steps): Cut<'_>,
     counts: (&Arc<AtomicU64>, &Arc<AtomicU64>),
 ) -> Result<bool, AllocError> {
     let (drops, others) = counts;
     let (entries, number, _, (passing, refused), (placed_at, _)) = *course;
-    let table: Table<'_> = LockFreeRawTable::new(memory);
-    fill(rt, alloc, &table, memory, entries, others)?;
-    memory.refuse(passing, refused);
+    let table: Table<A> = LockFreeRawTable::new(memory);
+    fill(rt, alloc, heap, &table, entries, others)?;
+    heap.refuse(passing, refused);
     let other = other_of(alloc, course, steps, others)?;
     let joined = other.is_some();
     let value = Box::new(alloc, Counting::new(number, drops.clone()?))?;
     give_up_after(rt, &table, value, other, course, steps);
-    memory.refuse(0, 0);
+    heap.refuse(0, 0);
     let placed = placed_at <= steps;
     assert_count(rt, drops.load(Ordering::SeqCst), u64::from(!placed), steps);
     let known = placed || knows(course, joined);
@@ -229,14 +233,15 @@ fn assert_given_up<R: Wait + Abort>(
     course: &Course,
     steps: u64,
 ) -> Result<(), Fail> {
-    let memory = Refusing::new(alloc, Rule::new(0, usize::MAX, 0, 0));
+    let heap = Refusing::new(alloc, Rule::new(0, usize::MAX, 0, 0));
     let drops = Arc::new(alloc, AtomicU64::new(0))?;
     let others = Arc::new(alloc, AtomicU64::new(0))?;
-    let joined = give_up_and_go_on(rt, alloc, &memory, course, steps, (&drops, &others))?;
+    let counts = (&drops, &others);
+    let joined = give_up_and_go_on(rt, alloc, &heap, &heap, (course, steps), counts)?;
     assert_count(rt, drops.load(Ordering::SeqCst), 1, steps);
     let there = entries_with(course, joined).wrapping_add(1);
     assert_count(rt, others.load(Ordering::SeqCst), there, steps);
-    assert_count(rt, memory.given_back(), memory.granted(), steps);
+    assert_count(rt, heap.given_back(), heap.granted(), steps);
     Ok(())
 }
 

@@ -1,9 +1,10 @@
-//! A shared table of values that count their drops, over an allocator that refuses some requests. The numbers 4n to 4n + 3 are equal.
+//! A shared table of values that count their drops, and an allocator that refuses some requests. The numbers 4n to 4n + 3 are equal.
 use super::numbers::{InsertEnd, insert_at};
 use lock_free_hashtable::raw::{LockFreeRawTable, is_first_capacity};
 use std::alloc::Global;
 use std::process::Abort;
 use std::sync::Wait;
+use table_cell::Low;
 use testkit::counting::asked::Lawful;
 use testkit::counting::{Counting, Drops};
 use testkit::refusing::handover::MOST_LOOKS;
@@ -16,16 +17,16 @@ const BLOCK: usize = 16;
 const CAPACITY: usize = 1024;
 
 /// A shared table of boxed values that count their drops.
-pub(crate) type Countings<'m> = LockFreeRawTable<Box<Counting>, &'m Refusing<Global>>;
+pub(crate) type Countings<A> = LockFreeRawTable<Box<Counting>, A>;
 
 /// A table, and how often each of its values was dropped.
 #[derive(Drop)]
-pub(crate) struct Counted<'m> {
-    pub table: Countings<'m>,
+pub(crate) struct Counted<A: Low + Copy> {
+    pub table: Countings<A>,
     pub drops: Drops,
 }
 
-impl<'m> Counted<'m> {
+impl<A: Low + Copy> Counted<A> {
     /// Inserts the number under this hash, and returns the answer.
     pub(crate) fn insert<R: Wait>(&self, rt: &R, hash: u64, number: u64) -> InsertEnd {
         match self.drops.counting(number) {
@@ -43,16 +44,16 @@ pub(crate) fn paired(alloc: Global, pairs: u64) -> Refusing<Global> {
     )
 }
 
-/// Makes a table with a first generation and no entry, since the block of this value is refused.
-pub(crate) fn opened<'m, R: Abort + Wait>(
+/// Makes a table with a first generation and no entry, since this memory refuses the block of the value.
+pub(crate) fn opened<R: Abort + Wait, A: Low + Copy>(
     rt: &R,
-    heap: &'m Refusing<Global>,
+    memory: A,
     drops: Drops,
     number: u64,
-) -> Counted<'m> {
+) -> Counted<A> {
     assert!(rt; is_first_capacity(CAPACITY));
     let opened = Counted {
-        table: LockFreeRawTable::with_first_capacity(heap, CAPACITY),
+        table: LockFreeRawTable::with_first_capacity(memory, CAPACITY),
         drops,
     };
     let is_refused = opened.insert(rt, 0, number) == InsertEnd::Refused;

@@ -22,9 +22,6 @@ const NUMBERS: u64 = 260;
 
 const ROUNDS: u64 = 20;
 
-/// An allocator with a rule for the blocks of entries, over an allocator with a rule for growth.
-type Memory<'m> = Refusing<&'m Refusing<Global>>;
-
 /// Pairs of the numbers below 17. The first pair is 0 and 0.
 const PAIRS: [(u64, u64); 9] = [
     (0, 0),
@@ -43,27 +40,32 @@ const EQUAL_AT_LAST: [(u64, u64); 6] = [(0, 0), (1, 2), (3, 4), (5, 6), (7, 8), 
 
 /// The equality and hash of numbers, pairs of numbers that two threads insert at once, and how many requests of growth are refused at
 /// first. Then how many numbers are placed in the end, and how many buckets the current generation has.
-type Meeting = (Lawful, &'static [(u64, u64)], u64, u64, u64);
+type Meeting<'p> = (Lawful, &'p [(u64, u64)], u64, u64, u64);
 
 /// One number of the last pair takes the last vacant bucket, and the insert of the other grows the table. In the second meeting both probes
 /// reach this bucket at their end, so the loser has met every bucket.
-const AT_THE_LAST_BUCKET: [Meeting; 2] = [
+const AT_THE_LAST_BUCKET: [Meeting<'static>; 2] = [
     (Lawful::ByFives, &PAIRS, 8, 17, 64),
     (Lawful::FromTheFirst, &PAIRS, 8, 17, 64),
 ];
 
 /// One insert of the last pair finds the other's number. Both then try to grow the table, and one of them is refused.
-const FOUND_BY_THE_LOSER: Meeting = (Lawful::ByFives, &EQUAL_AT_LAST, 3, 10, 32);
+const FOUND_BY_THE_LOSER: Meeting<'static> = (Lawful::ByFives, &EQUAL_AT_LAST, 3, 10, 32);
 
 /// Asserts that the table reports and an iterator yields `entries` entries, and that the current generation has `buckets` buckets.
 fn assert_size<R: Abort, A: Low + Copy>(rt: &R, table: &Boxed<A>, entries: u64, buckets: u64) {
     assert_same(rt, table.size(), [entries, entries, buckets]);
 }
 
+/// Makes a heap that refuses nothing at first, and counts only requests that are larger than the block of an entry.
+fn heap_of_growth(alloc: Global) -> Refusing<Global> {
+    Refusing::new(alloc, Rule::new(BLOCK + 1, usize::MAX, 0, 0))
+}
+
 /// Inserts the numbers of each pair by two threads at once, and returns the tally of all answers.
-fn offer_all<R: Threads + Wait + Sync>(
+fn offer_all<R: Threads + Wait + Sync, A: Low + Copy + Send + Sync>(
     rt: &R,
-    table: &Boxed<&Memory<'_>>,
+    table: &Boxed<A>,
     alloc: Global,
     pairs: &[(u64, u64)],
 ) -> Tally {
@@ -75,26 +77,41 @@ fn offer_all<R: Threads + Wait + Sync>(
     tally
 }
 
-/// Asserts that the meeting ends as it says, on a table with a first generation and no entry. The block of its first value is refused.
-fn assert_meets<R: Abort + Threads + Wait + Sync>(rt: &R, alloc: Global, meeting: Meeting) {
+/// Asserts that the meeting ends as it says, on a table over this memory. The memory refuses the block of the first value, so the meeting
+/// begins with a first generation and no entry. `growth` refuses the requests for growth that the meeting names.
+fn assert_meets_over<R: Abort + Threads + Wait + Sync, A: Low + Copy + Send + Sync>(
+    rt: &R,
+    alloc: Global,
+    growth: &Refusing<Global>,
+    memory: A,
+    meeting: Meeting<'_>,
+) {
     let (lawful, offers, refused, placed, buckets) = meeting;
-    let pairs = offers.len() as u64;
-    let growth = Refusing::new(alloc, Rule::new(BLOCK + 1, usize::MAX, 0, 0));
-    let heap = Refusing::new(
-        &growth,
-        Rule::new(BLOCK, BLOCK, 0, 1).paired(pairs, MOST_LOOKS),
-    );
-    let table: Boxed<&Memory<'_>> = Boxed::new(&heap, alloc, lawful);
+    let table: Boxed<A> = Boxed::new(memory, alloc, lawful);
     assert_insert(rt, &table, 0, InsertEnd::Refused);
     assert_same(rt, seen(&table, 0), those_below(0));
     assert_size(rt, &table, 0, 16);
     growth.refuse(0, refused);
     let tally = offer_all(rt, &table, alloc, offers);
-    let found = pairs.wrapping_mul(2).wrapping_sub(placed);
+    let offered = (offers.len() as u64).wrapping_mul(2);
+    let found = offered.wrapping_sub(placed);
     assert_same(rt, tally, Tally::of(placed, found));
-    assert_same(rt, [heap.went_alone(), growth.refusals_left()], [0, 0]);
+    assert_same(rt, growth.refusals_left(), 0);
     assert_size(rt, &table, placed, buckets);
     assert_same(rt, seen(&table, placed), those_below(placed));
+}
+
+/// Makes an allocator that refuses blocks of entries, over one that refuses growth. Asserts that the meeting ends as it says over both, and
+/// that each paired request for a block met the other one.
+fn assert_meets<R: Abort + Threads + Wait + Sync>(rt: &R, alloc: Global, meeting: Meeting<'_>) {
+    let (_, offers, ..) = meeting;
+    let growth = heap_of_growth(alloc);
+    let heap = Refusing::new(
+        &growth,
+        Rule::new(BLOCK, BLOCK, 0, 1).paired(offers.len() as u64, MOST_LOOKS),
+    );
+    assert_meets_over(rt, alloc, &growth, &heap, meeting);
+    assert_same(rt, heap.went_alone(), 0);
 }
 
 #[test]
@@ -113,54 +130,71 @@ fn growth_comes_after_what_a_loser_found(rt: HostRuntime) {
     }
 }
 
-/// Makes a heap that refuses nothing at first, and counts only requests that are larger than the block of an entry.
-fn memory_of_growth(alloc: Global) -> Refusing<Global> {
-    Refusing::new(alloc, Rule::new(BLOCK + 1, usize::MAX, 0, 0))
-}
-
-/// Makes a table whose first generation is full, since growth is refused from the second number on.
-fn full<'m, R: Abort + Wait>(
+/// Makes a table over this memory. Its first generation is full, since the heap refuses growth from the second number on.
+fn full<R: Abort + Wait, A: Low + Copy>(
     rt: &R,
-    heap: &'m Refusing<Global>,
     alloc: Global,
-) -> Boxed<&'m Refusing<Global>> {
-    let table = Boxed::new(heap, alloc, Lawful::Spread);
+    heap: &Refusing<Global>,
+    memory: A,
+) -> Boxed<A> {
+    let table = Boxed::new(memory, alloc, Lawful::Spread);
     assert_insert(rt, &table, 0, InsertEnd::Placed);
     heap.refuse(0, u64::MAX);
     assert_same(rt, fill(rt, &table, 1..16), Tally::of(15, 0));
     table
 }
 
+/// Fills the first generation. Asserts that a new number is then refused and a known one found, and that the generation grows once the heap
+/// refuses nothing.
+fn assert_grows_later<R: Abort + Wait, A: Low + Copy>(
+    rt: &R,
+    alloc: Global,
+    heap: &Refusing<Global>,
+    memory: A,
+) {
+    let table = full(rt, alloc, heap, memory);
+    assert_insert(rt, &table, 16, InsertEnd::Refused);
+    assert_insert(rt, &table, 4, InsertEnd::Found);
+    assert_size(rt, &table, 16, 16);
+    heap.refuse(0, 0);
+    assert_insert(rt, &table, 4, InsertEnd::Found);
+    assert_size(rt, &table, 16, 32);
+}
+
 #[test]
 fn a_full_generation_grows_once_there_is_memory(rt: HostRuntime) {
-    let heap = memory_of_growth(rt.alloc());
-    let table = full(&rt, &heap, rt.alloc());
-    assert_insert(&rt, &table, 16, InsertEnd::Refused);
-    assert_insert(&rt, &table, 4, InsertEnd::Found);
-    assert_size(&rt, &table, 16, 16);
+    let heap = heap_of_growth(rt.alloc());
+    assert_grows_later(&rt, rt.alloc(), &heap, &heap);
+}
+
+/// Fills the first generation, and asserts that it grows for a new number once the heap refuses nothing.
+fn assert_grows_for_new<R: Abort + Wait, A: Low + Copy>(
+    rt: &R,
+    alloc: Global,
+    heap: &Refusing<Global>,
+    memory: A,
+) {
+    let table = full(rt, alloc, heap, memory);
     heap.refuse(0, 0);
-    assert_insert(&rt, &table, 4, InsertEnd::Found);
-    assert_size(&rt, &table, 16, 32);
+    assert_insert(rt, &table, 16, InsertEnd::Placed);
+    assert_same(rt, seen(&table, 17), those_below(17));
+    assert_size(rt, &table, 17, 64);
 }
 
 #[test]
 fn a_full_generation_grows_for_a_new_number(rt: HostRuntime) {
-    let heap = memory_of_growth(rt.alloc());
-    let table = full(&rt, &heap, rt.alloc());
-    heap.refuse(0, 0);
-    assert_insert(&rt, &table, 16, InsertEnd::Placed);
-    assert_same(&rt, seen(&table, 17), those_below(17));
-    assert_size(&rt, &table, 17, 64);
+    let heap = heap_of_growth(rt.alloc());
+    assert_grows_for_new(&rt, rt.alloc(), &heap, &heap);
 }
 
 /// A table, and a sign that one thread has begun. That thread waits for the memory of its entry while another one reads the size.
 #[derive(Drop)]
-struct Looked<'m> {
-    table: Boxed<&'m Refusing<Global>>,
+struct Looked<A: Low + Copy> {
+    table: Boxed<A>,
     begun: AtomicU64,
 }
 
-impl<'m> Looked<'m> {
+impl<A: Low + Copy> Looked<A> {
     /// Reads the size again and again, and returns how often the length was above that of a later iterator.
     fn look(&self) -> u64 {
         let mut miscounts = 0u64;
@@ -172,7 +206,7 @@ impl<'m> Looked<'m> {
     }
 }
 
-impl<'m> Work for Looked<'m> {
+impl<A: Low + Copy> Work for Looked<A> {
     fn work<R: Wait>(&self, rt: &R, thread: u64) -> Tally {
         let mut tally = Tally::NONE;
         if thread == 0 {
@@ -185,20 +219,31 @@ impl<'m> Work for Looked<'m> {
     }
 }
 
+/// Inserts two numbers while one thread reads the size, and asserts that no length was above that of a later iterator. The heap makes
+/// the requests for the two blocks wait for each other.
+fn assert_looked<R: Abort + Threads + Wait + Sync, A: Low + Copy + Send + Sync>(
+    rt: &R,
+    alloc: Global,
+    heap: &Refusing<Global>,
+    memory: A,
+) {
+    let looked = Looked {
+        table: Boxed::new(memory, alloc, Lawful::Spread),
+        begun: AtomicU64::new(0),
+    };
+    assert_insert(rt, &looked.table, 7, InsertEnd::Refused);
+    assert_same(rt, at_once(rt, alloc, 2, &looked), Tally::of(2, 0));
+    assert_same(rt, heap.went_alone(), 0);
+    assert_same(rt, seen(&looked.table, 2), those_below(2));
+}
+
 #[test]
 fn an_entry_is_counted_once_it_is_there(rt: HostRuntime) {
     let heap = Refusing::new(
         rt.alloc(),
         Rule::new(BLOCK, BLOCK, 0, 1).paired(1, MOST_LOOKS),
     );
-    let looked = Looked {
-        table: Boxed::new(&heap, rt.alloc(), Lawful::Spread),
-        begun: AtomicU64::new(0),
-    };
-    assert_insert(&rt, &looked.table, 7, InsertEnd::Refused);
-    assert_same(&rt, at_once(&rt, rt.alloc(), 2, &looked), Tally::of(2, 0));
-    assert_same(&rt, heap.went_alone(), 0);
-    assert_same(&rt, seen(&looked.table, 2), those_below(2));
+    assert_looked(&rt, rt.alloc(), &heap, &heap);
 }
 
 /// A table into which two threads insert the same numbers while a third one watches, and what they see meanwhile.

@@ -7,6 +7,7 @@ use std::process::Abort;
 use std::sync::Wait;
 use std::test::Fail;
 use std::thread::Threads;
+use table_cell::Low;
 use testkit::counting::Drops;
 use testkit::counting::asked::{Asked, Lawful};
 use testkit::counting::tally::{Tally, Work, at_once};
@@ -23,13 +24,13 @@ const TAKEN: [u64; 5] = [0, 1, 2, 1500, 3000];
 
 /// The work of threads that each insert their own number of each class from `from` up to `to`, exclusive.
 #[derive(Drop)]
-struct Filling<'a, 'm> {
-    counted: &'a Counted<'m>,
+struct Filling<'a, A: Low + Copy> {
+    counted: &'a Counted<A>,
     from: u64,
     to: u64,
 }
 
-impl<'a, 'm> Work for Filling<'a, 'm> {
+impl<A: Low + Copy> Work for Filling<'_, A> {
     fn work<R: Wait>(&self, rt: &R, thread: u64) -> Tally {
         let mut tally = Tally::NONE;
         for class in self.from..self.to {
@@ -42,10 +43,10 @@ impl<'a, 'm> Work for Filling<'a, 'm> {
 }
 
 /// Inserts the numbers of these classes by `threads` threads at once, and returns the tally of the answers.
-fn fill_at_once<R: Threads + Wait + Sync>(
+fn fill_at_once<R: Threads + Wait + Sync, A: Low + Copy + Send + Sync>(
     rt: &R,
     alloc: Global,
-    counted: &Counted<'_>,
+    counted: &Counted<A>,
     from: u64,
     to: u64,
     threads: usize,
@@ -55,11 +56,11 @@ fn fill_at_once<R: Threads + Wait + Sync>(
 
 /// Takes `taken` values out of a table with one entry of each class, drops the rest, and then drops those. Asserts how many values were
 /// dropped before and after each step, which were `gone` at first, and that each block is freed. `Err`: no memory.
-fn assert_ends(
+fn assert_ends<A: Low + Copy>(
     rt: &impl Abort,
     alloc: Global,
     heap: &Refusing<Global>,
-    counted: Counted<'_>,
+    counted: Counted<A>,
     taken: u64,
     gone: u64,
 ) -> Result<(), AllocError> {
@@ -93,31 +94,35 @@ fn assert_ends(
     Ok(())
 }
 
-/// Inserts equal values by four threads while the table grows, and asserts that each value is dropped once. `Err`: no memory.
-fn assert_grown<R: Abort + Threads + Wait + Sync>(
+/// Inserts equal values by four threads while the table grows, and asserts that each value is dropped once. The heap counts the requests of
+/// the memory. `Err`: no memory.
+fn assert_grown<R: Abort + Threads + Wait + Sync, A: Low + Copy + Send + Sync>(
     rt: &R,
     alloc: Global,
+    heap: &Refusing<Global>,
+    memory: A,
     taken: u64,
 ) -> Result<(), AllocError> {
-    let heap = Refusing::new(alloc, Rule::new(0, 0, 0, 0));
     let counted = Counted {
-        table: LockFreeRawTable::new(&heap),
+        table: LockFreeRawTable::new(memory),
         drops: Drops::new(alloc, 4 * CLASSES)?,
     };
     let tally = fill_at_once(rt, alloc, &counted, 0, CLASSES, 4);
     assert_same(rt, tally, Tally::of(CLASSES, 3 * CLASSES));
-    assert_ends(rt, alloc, &heap, counted, taken, 3 * CLASSES)
+    assert!(rt; heap.granted() != 0);
+    assert_ends(rt, alloc, heap, counted, taken, 3 * CLASSES)
 }
 
 /// Inserts equal values by two threads, so that each exchange of one meets one of the other, and then more by one thread while the table
-/// grows. Asserts that each value is dropped once. `Err`: no memory.
-fn assert_lost<R: Abort + Threads + Wait + Sync>(
+/// grows. Asserts that each value is dropped once. The heap counts the requests of the memory. `Err`: no memory.
+fn assert_lost<R: Abort + Threads + Wait + Sync, A: Low + Copy + Send + Sync>(
     rt: &R,
     alloc: Global,
+    heap: &Refusing<Global>,
+    memory: A,
     taken: u64,
 ) -> Result<(), AllocError> {
-    let heap = paired(alloc, LOST);
-    let counted = opened(rt, &heap, Drops::new(alloc, 4 * CLASSES)?, 3);
+    let counted = opened(rt, memory, Drops::new(alloc, 4 * CLASSES)?, 3);
     let before = heap.granted();
     let tally = fill_at_once(rt, alloc, &counted, 0, LOST, 2);
     assert_same(rt, tally, Tally::of(LOST, LOST));
@@ -133,14 +138,16 @@ fn assert_lost<R: Abort + Threads + Wait + Sync>(
     );
     let tally = fill_at_once(rt, alloc, &counted, LOST, CLASSES, 1);
     assert_same(rt, tally, Tally::of(CLASSES - LOST, 0));
-    assert_ends(rt, alloc, &heap, counted, taken, LOST + 1)
+    assert_ends(rt, alloc, heap, counted, taken, LOST + 1)
 }
 
 #[test]
 fn values_over_growth_and_of_lost_exchanges(rt: HostRuntime) -> Result<(), Fail> {
     for taken in TAKEN {
-        assert_grown(&rt, rt.alloc(), taken)?;
-        assert_lost(&rt, rt.alloc(), taken)?;
+        let grown = Refusing::new(rt.alloc(), Rule::new(0, 0, 0, 0));
+        assert_grown(&rt, rt.alloc(), &grown, &grown, taken)?;
+        let lost = paired(rt.alloc(), LOST);
+        assert_lost(&rt, rt.alloc(), &lost, &lost, taken)?;
     }
     Ok(())
 }

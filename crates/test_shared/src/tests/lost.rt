@@ -6,8 +6,10 @@ use std::process::Abort;
 use std::sync::Wait;
 use std::test::Fail;
 use std::thread::Threads;
+use table_cell::Low;
 use testkit::counting::Drops;
 use testkit::counting::tally::{Tally, Work, at_once};
+use testkit::refusing::Refusing;
 
 /// The hash of the first of two values, whose number is 0.
 const HASH: u64 = 5;
@@ -26,13 +28,13 @@ const MEETINGS: [(u64, u64, u64, u64); 5] = [
 
 /// Two values that two threads insert at once: the number 0, and one with this number and hash.
 #[derive(Drop)]
-struct Offer<'a, 'm> {
-    counted: &'a Counted<'m>,
+struct Offer<'a, A: Low + Copy> {
+    counted: &'a Counted<A>,
     number: u64,
     hash: u64,
 }
 
-impl<'a, 'm> Work for Offer<'a, 'm> {
+impl<A: Low + Copy> Work for Offer<'_, A> {
     fn work<R: Wait>(&self, rt: &R, thread: u64) -> Tally {
         Tally::NONE.with(if thread == 0 {
             self.counted.insert(rt, HASH, 0)
@@ -43,7 +45,7 @@ impl<'a, 'm> Work for Offer<'a, 'm> {
 }
 
 /// Returns how many of the entries that a walk over the table returns have this number.
-fn count_of(table: &Countings<'_>, number: u64) -> u64 {
+fn count_of<A: Low + Copy>(table: &Countings<A>, number: u64) -> u64 {
     let mut count = 0u64;
     for entry in table.iter() {
         if entry.number == number {
@@ -54,21 +56,23 @@ fn count_of(table: &Countings<'_>, number: u64) -> u64 {
 }
 
 /// Asserts that a walk over the table returns 0 and this number once each if both were placed, and otherwise one of them once.
-fn assert_entries(rt: &impl Abort, table: &Countings<'_>, number: u64, placed: u64) {
+fn assert_entries<A: Low + Copy>(rt: &impl Abort, table: &Countings<A>, number: u64, placed: u64) {
     let (zeros, others) = (count_of(table, 0), count_of(table, number));
     assert!(rt; zeros <= 1 && others <= 1);
     assert_same(rt, zeros.wrapping_add(others), placed);
 }
 
-/// Inserts 0 and another number at one empty bucket at once, and asserts that the meeting ends as it says. `Err`: no memory.
-fn assert_met<R: Abort + Threads + Wait + Sync>(
+/// Inserts 0 and another number at one empty bucket at once, and asserts that the meeting ends as it says. The heap counts the requests
+/// of the memory. `Err`: no memory.
+fn assert_met<R: Abort + Threads + Wait + Sync, A: Low + Copy + Send + Sync>(
     rt: &R,
     alloc: Global,
+    heap: &Refusing<Global>,
+    memory: A,
     meeting: (u64, u64, u64, u64),
 ) -> Result<(), AllocError> {
     let (number, hash, placed, blocks) = meeting;
-    let heap = paired(alloc, 1);
-    let counted = opened(rt, &heap, Drops::new(alloc, 8)?, 7);
+    let counted = opened(rt, memory, Drops::new(alloc, 8)?, 7);
     let before = heap.granted();
     let offer = Offer {
         counted: &counted,
@@ -104,7 +108,8 @@ fn assert_met<R: Abort + Threads + Wait + Sync>(
 fn two_threads_at_one_empty_bucket(rt: HostRuntime) -> Result<(), Fail> {
     for meeting in MEETINGS {
         for _again in 0..10u32 {
-            assert_met(&rt, rt.alloc(), meeting)?;
+            let heap = paired(rt.alloc(), 1);
+            assert_met(&rt, rt.alloc(), &heap, &heap, meeting)?;
         }
     }
     Ok(())

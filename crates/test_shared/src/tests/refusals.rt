@@ -2,6 +2,7 @@
 use super::numbers::{Boxed, assert_same};
 use std::alloc::Global;
 use std::sync::Wait;
+use table_cell::Low;
 use testkit::counting::asked::Lawful;
 use testkit::counting::numbers::{refused_in_turn, refused_inserts};
 use testkit::refusing::{Refusing, Rule};
@@ -14,11 +15,16 @@ const NUMBERS: u64 = 17;
 /// and this room. A refused growth changes no answer, since the number was placed before.
 const REFUSED: u64 = NUMBERS + 6;
 
+/// Inserts the numbers into a table over this memory. Returns how many are refused, or `None` after a wrong answer.
+fn refused_over<R: Wait, A: Low + Copy>(rt: &R, alloc: Global, memory: A) -> Option<u64> {
+    let table: Boxed<A> = Boxed::new(memory, alloc, Lawful::Spread);
+    refused_inserts(rt, &table, NUMBERS)
+}
+
 /// Inserts the numbers while the request after `passing` ones is refused. Returns how many are refused, or `None` after a wrong answer.
 fn refused<R: Wait + AllocGlobal>(rt: &R, passing: u64) -> Option<u64> {
-    let memory = Refusing::new(rt.alloc(), Rule::new(0, usize::MAX, passing, 1));
-    let table: Boxed<&Refusing<Global>> = Boxed::new(&memory, rt.alloc(), Lawful::Spread);
-    refused_inserts(rt, &table, NUMBERS)
+    let heap = Refusing::new(rt.alloc(), Rule::new(0, usize::MAX, passing, 1));
+    refused_over(rt, rt.alloc(), &heap)
 }
 
 #[test]

@@ -4,7 +4,7 @@ use lock_free_hashtable::raw::{HeldRawTable, LockFreeRawTable, Share};
 use std::alloc::{AllocError, Global};
 use std::process::Abort;
 use std::test::Fail;
-use table_cell::Missed;
+use table_cell::{Low, Missed};
 use table_generations::fixed::shared::Look;
 use table_terms::law::hash_number;
 use table_terms::probe::bits_of_hash;
@@ -12,24 +12,24 @@ use testkit::counting::numbers::count_first;
 use testkit::counting::{Counting, Drops};
 use testkit::refusing::{Refusing, Rule};
 
-type Memory<'a> = &'a Refusing<Global>;
+type Held<A> = HeldRawTable<Box<Counting>, A>;
 
-type Held<'a> = HeldRawTable<Box<Counting>, Memory<'a>>;
-
-type Shared<'a> = LockFreeRawTable<Box<Counting>, Memory<'a>>;
+type Shared<A> = LockFreeRawTable<Box<Counting>, A>;
 
 /// The number of entries of a single-owner table, and how many values are set through `&` after it became shared.
-const TABLES: [(u64, u64); 6] = [(0, 0), (1, 0), (1, 1), (7, 9), (20, 0), (40, 24)];
+type Sizes = (u64, u64);
+
+const TABLES: [Sizes; 6] = [(0, 0), (1, 0), (1, 1), (7, 9), (20, 0), (40, 24)];
 
 /// Makes a single-owner table of the first `entries` numbers. `Err`: no memory.
-fn held<'a>(heap: Memory<'a>, entries: u64, drops: &Drops) -> Result<Held<'a>, AllocError> {
-    let mut table = HeldRawTable::new(heap);
+fn held<A: Low + Copy>(memory: A, entries: u64, drops: &Drops) -> Result<Held<A>, AllocError> {
+    let mut table = HeldRawTable::new(memory);
     drops.place_in(&mut table, entries)?;
     Ok(table)
 }
 
 /// Sets the first vacant bucket of the current generation to the value. Returns whether there was one and it was set.
-fn sets(table: &Shared<'_>, value: Box<Counting>) -> bool {
+fn sets<A: Low + Copy>(table: &Shared<A>, value: Box<Counting>) -> bool {
     let Some(current) = table.current(&mut table.note()) else {
         return false;
     };
@@ -50,7 +50,12 @@ fn sets(table: &Shared<'_>, value: Box<Counting>) -> bool {
 }
 
 /// Sets buckets through `&` to the numbers from `from` up to `to`, exclusive. Returns how many were set. `Err`: no memory.
-fn set_more(table: &Shared<'_>, from: u64, to: u64, drops: &Drops) -> Result<u64, AllocError> {
+fn set_more<A: Low + Copy>(
+    table: &Shared<A>,
+    from: u64,
+    to: u64,
+    drops: &Drops,
+) -> Result<u64, AllocError> {
     let mut set = 0u64;
     for number in from..to {
         let value = drops.counting(number)?;
@@ -60,7 +65,7 @@ fn set_more(table: &Shared<'_>, from: u64, to: u64, drops: &Drops) -> Result<u64
 }
 
 /// Returns the numbers that an iterator by reference yields. `Err`: no memory.
-fn walked(table: &Shared<'_>, alloc: Global) -> Result<Vec<u64>, AllocError> {
+fn walked<A: Low + Copy>(table: &Shared<A>, alloc: Global) -> Result<Vec<u64>, AllocError> {
     let mut seen = Vec::new(alloc);
     for entry in table {
         seen.push(entry.number)?;
@@ -75,8 +80,8 @@ fn assert_first(rt: &impl Abort, seen: Vec<u64>, numbers: u64) {
 }
 
 /// Returns the length of the owning iterator, whether it stays at its end, and the numbers that it yields. `Err`: no memory.
-fn handed_to_the_end(
-    table: Shared<'_>,
+fn handed_to_the_end<A: Low + Copy>(
+    table: Shared<A>,
     alloc: Global,
 ) -> Result<(u64, bool, Vec<u64>), AllocError> {
     let mut seen = Vec::new(alloc);
@@ -89,9 +94,9 @@ fn handed_to_the_end(
 }
 
 /// If `is_handed`, asserts that the owning iterator yields the first `numbers` numbers. Otherwise drops the table. `Err`: no memory.
-fn assert_ended(
+fn assert_ended<A: Low + Copy>(
     rt: &impl Abort,
-    table: Shared<'_>,
+    table: Shared<A>,
     alloc: Global,
     numbers: u64,
     is_handed: bool,
@@ -105,18 +110,18 @@ fn assert_ended(
 }
 
 /// Shares a table of `entries` entries, sets `more` values through `&`, and ends the table. Asserts that each value is an entry and is
-/// dropped once, and that only the set values request memory. `Err`: no memory.
-fn assert_shared(
+/// dropped once, and that only the set values request memory. The heap counts the requests of the memory. `Err`: no memory.
+fn assert_shared<A: Low + Copy>(
     rt: &impl Abort,
     alloc: Global,
-    entries: u64,
-    more: u64,
+    heap: &Refusing<Global>,
+    memory: A,
+    (entries, more): Sizes,
     is_handed: bool,
 ) -> Result<(), AllocError> {
-    let heap = Refusing::new(alloc, Rule::new(0, 0, 0, 0));
     let all = entries.wrapping_add(more);
     let drops = Drops::new(alloc, all)?;
-    let held = held(&heap, entries, &drops)?;
+    let held = held(memory, entries, &drops)?;
     let before = heap.granted();
     let table = held.share();
     let (length, is_empty) = (table.len() as u64, table.is_empty());
@@ -138,9 +143,11 @@ fn assert_shared(
 
 #[test]
 fn a_shared_table_shows_and_hands_out_each_value_once(rt: HostRuntime) -> Result<(), Fail> {
-    for (entries, more) in TABLES {
-        assert_shared(&rt, rt.alloc(), entries, more, true)?;
-        assert_shared(&rt, rt.alloc(), entries, more, false)?;
+    for sizes in TABLES {
+        for is_handed in [true, false] {
+            let heap = Refusing::new(rt.alloc(), Rule::new(0, 0, 0, 0));
+            assert_shared(&rt, rt.alloc(), &heap, &heap, sizes, is_handed)?;
+        }
     }
     Ok(())
 }

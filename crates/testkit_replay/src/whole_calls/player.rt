@@ -13,6 +13,7 @@ use std::sync::Wait;
 use std::sync::atomic::{AtomicU64, Ordering};
 use std::thread::Threads;
 use std::{hint, thread};
+use table_cell::Low;
 use testkit::refusing::Turns;
 
 /// How often the watcher compares what the table shows with what was rehearsed for a call that waits. It yields after each look.
@@ -23,9 +24,9 @@ const QUIET_SPINS: u64 = 2_000;
 
 /// Runs a whole call, and returns its reply. Its equality closure answers by `says`, which is given the number of the value that the table
 /// passes, or of a look-up. Its hash closure answers by `rehashes`. `Err`: no memory for its value.
-fn run_call<R: Wait, S: Fn(u64, &Item) -> bool, H: Fn(&Item) -> u64>(
+fn run_call<R: Wait, A: Low + Copy, S: Fn(u64, &Item) -> bool, H: Fn(&Item) -> u64>(
     rt: &R,
-    ground: Ground<'_, '_>,
+    ground: Ground<'_, A>,
     number: u64,
     ask: Ask,
     says: S,
@@ -63,7 +64,7 @@ struct Copies<'p> {
 /// What runs inside the closures of a whole call.
 trait Inside {
     /// Runs inside a closure of a whole call.
-    fn run<R: Wait>(&self, player: &Player<'_, '_, R>);
+    fn run<R: Wait, A: Low + Copy>(&self, player: &Player<'_, R, A>);
 }
 
 /// Nothing runs inside closures.
@@ -71,7 +72,7 @@ trait Inside {
 struct Nothing;
 
 impl Inside for Nothing {
-    fn run<R: Wait>(&self, _player: &Player<'_, '_, R>) {}
+    fn run<R: Wait, A: Low + Copy>(&self, _player: &Player<'_, R, A>) {}
 }
 
 /// The calls run whose stops come next. What this holds runs inside their closures.
@@ -79,7 +80,7 @@ impl Inside for Nothing {
 struct Deeper<I: Inside>(I);
 
 impl<I: Inside> Inside for Deeper<I> {
-    fn run<R: Wait>(&self, player: &Player<'_, '_, R>) {
+    fn run<R: Wait, A: Low + Copy>(&self, player: &Player<'_, R, A>) {
         for _stop in player.stops {
             if !player.play_next(&self.0) {
                 return;
@@ -90,16 +91,16 @@ impl<I: Inside> Inside for Deeper<I> {
 
 /// A thread that makes these stops, with the place of the next one, and its first fault.
 #[derive(Drop)]
-struct Player<'p, 'm, R: Wait> {
+struct Player<'p, R: Wait, A: Low + Copy> {
     rt: &'p R,
-    ground: Ground<'p, 'm>,
+    ground: Ground<'p, A>,
     copies: &'p Copies<'p>,
     stops: &'p [Stop],
     place: Cell<usize>,
     fault: Cell<Option<ReplayFault>>,
 }
 
-impl<R: Wait> Player<'_, '_, R> {
+impl<R: Wait, A: Low + Copy> Player<'_, R, A> {
     /// Returns the next stop. Returns `None` if there is none, or if all waiting was ended.
     fn peek(&self) -> Option<Stop> {
         if self.turns().has_ended() {
@@ -115,7 +116,7 @@ impl<R: Wait> Player<'_, '_, R> {
 
     /// Returns the turns that the threads take.
     fn turns(&self) -> &Turns {
-        self.ground.memory.turns()
+        self.ground.heap.turns()
     }
 
     /// Records a fault, if it is the first. From then on no thread waits, and both threads run to their ends.
@@ -234,7 +235,7 @@ impl<R: Wait> Player<'_, '_, R> {
         let call = stop.call;
         self.arrive(call, stop.milestone);
         if let Some((passing, refused)) = refusals {
-            self.ground.memory.refuse(passing, refused);
+            self.ground.heap.refuse(passing, refused);
         }
         let says = |number: u64, entry: &Item| self.says(number, entry, inside);
         let rehashes = |entry: &Item| self.rehashes(call, entry, inside);
@@ -291,9 +292,9 @@ impl<R: Wait> Player<'_, '_, R> {
 }
 
 /// Makes the stops of one thread, and returns its first fault.
-fn play_as<R: Wait>(
+fn play_as<R: Wait, A: Low + Copy>(
     rt: &R,
-    ground: Ground<'_, '_>,
+    ground: Ground<'_, A>,
     copies: &Copies<'_>,
     stops: &[Stop],
 ) -> Option<ReplayFault> {
@@ -310,9 +311,9 @@ fn play_as<R: Wait>(
 
 /// Runs what was rehearsed on a table, and compares what the table shows at the end. `Err`: the fault of a thread, a missed turn, fewer copied
 /// entries or requests than were rehearsed, or a table that shows something else.
-pub(crate) fn play<R: Threads + Wait + Sync>(
+pub(crate) fn play<R: Threads + Wait + Sync, A: Low + Copy + Send + Sync>(
     rt: &R,
-    ground: Ground<'_, '_>,
+    ground: Ground<'_, A>,
     rehearsal: &Rehearsal<'_>,
 ) -> Result<(), ReplayFault> {
     let (one, other) = (
@@ -338,7 +339,7 @@ pub(crate) fn play<R: Threads + Wait + Sync>(
     if let Some(fault) = one.or(other).or(watcher) {
         return Err(fault);
     }
-    let turns = ground.memory.turns();
+    let turns = ground.heap.turns();
     check(turns.missed() == 0, ReplayFault::Alone)?;
     let copied = copies.count.load(Ordering::SeqCst);
     let all = copied == rehearsal.copied.len() as u64 && !turns.holds_next();

@@ -12,6 +12,7 @@ use crate::whole_calls::stops::{Copied, Milestone, Sight, Stop};
 use crate::whole_calls::{Moment, Plan, Top};
 use std::alloc::Global;
 use std::mem::swap;
+use table_cell::Low;
 use table_core::call::Phase;
 
 /// The number of classes from which calls of two threads are drawn.
@@ -139,7 +140,7 @@ impl<'s> Rehearsal<'s> {
 
     /// Returns whether an insert may begin inside the closure that was called last. It may not if it could have to wait for a lock that its
     /// own thread holds, since it would never end.
-    fn lets_insert(&self, replay: &Replay<'_, '_>) -> bool {
+    fn lets_insert<A: Low + Copy>(&self, replay: &Replay<'_, A>) -> bool {
         let mut inserts = 0u64;
         for open in self.running.open.iter() {
             if replay.phase_at(open.place) == Phase::Building {
@@ -151,7 +152,7 @@ impl<'s> Rehearsal<'s> {
     }
 
     /// Draws a call that may begin now. Two of three are inserts, if an insert may.
-    fn draw_nested(&self, replay: &Replay<'_, '_>) -> Ask {
+    fn draw_nested<A: Low + Copy>(&self, replay: &Replay<'_, A>) -> Ask {
         let (class, hash) = draw_class(self.script);
         if self.script.draw(3) == 0 || !self.lets_insert(replay) {
             Ask::Lookup(class, hash)
@@ -161,7 +162,7 @@ impl<'s> Rehearsal<'s> {
     }
 
     /// Returns the next top call. `Err`: the plan has none.
-    fn next_top(&mut self, replay: &Replay<'_, '_>) -> Result<Top, ReplayFault> {
+    fn next_top<A: Low + Copy>(&mut self, replay: &Replay<'_, A>) -> Result<Top, ReplayFault> {
         match self.plan {
             Plan::Turns(_) => Ok((self.draw_in_turns(), (0, 0))),
             Plan::Nested { refuses, .. } => {
@@ -182,7 +183,7 @@ impl<'s> Rehearsal<'s> {
 
     /// Returns the next call that begins inside the last closure, if one does. `asked` tells whether that closure was called just now, and
     /// not before a call inside it.
-    fn next_inside(&self, replay: &Replay<'_, '_>, asked: bool) -> Option<Ask> {
+    fn next_inside<A: Low + Copy>(&self, replay: &Replay<'_, A>, asked: bool) -> Option<Ask> {
         let depth = self.running.open.len();
         match self.plan {
             Plan::Nested { .. } if asked && depth < DEPTH && self.script.draw(4) == 0 => {
@@ -205,9 +206,9 @@ impl<'s> Rehearsal<'s> {
     }
 
     /// Adds a stop of the running thread, or of the watcher if a call waits. `Err`: no memory.
-    fn stop(
+    fn stop<A: Low + Copy>(
         &mut self,
-        replay: &Replay<'_, '_>,
+        replay: &Replay<'_, A>,
         milestone: Milestone,
         ends_turn: bool,
     ) -> Result<(), ReplayFault> {
@@ -263,9 +264,9 @@ impl<'s> Rehearsal<'s> {
     }
 
     /// Begins a call of the running thread. A top call has refusals. `Err`: no memory.
-    fn begin(
+    fn begin<A: Low + Copy>(
         &mut self,
-        replay: &mut Replay<'_, '_>,
+        replay: &mut Replay<'_, A>,
         ask: Ask,
         refusals: Option<Refusals>,
     ) -> Result<Turn, ReplayFault> {
@@ -273,7 +274,7 @@ impl<'s> Rehearsal<'s> {
         self.call = place as u64;
         self.stop(replay, Milestone::Began(ask, refusals), false)?;
         if let Some((passing, refused)) = refusals {
-            replay.ground.memory.refuse(passing, refused);
+            replay.ground.heap.refuse(passing, refused);
         }
         let said = None;
         granted(self.running.open.push(Open { place, ask, said }))?;
@@ -296,7 +297,10 @@ impl<'s> Rehearsal<'s> {
 
     /// Begins the next top call of the running thread. If none is left, ends the schedule. `Err`: the other thread goes on, the moment of the
     /// plan never came, the table and the machine differ, or no memory.
-    fn begin_top(&mut self, replay: &mut Replay<'_, '_>) -> Result<Turn, ReplayFault> {
+    fn begin_top<A: Low + Copy>(
+        &mut self,
+        replay: &mut Replay<'_, A>,
+    ) -> Result<Turn, ReplayFault> {
         if self.running.left == 0 {
             check(!self.waiting.goes_on(), ReplayFault::Unfinished)?;
             check(self.has_met(), ReplayFault::Alone)?;
@@ -310,7 +314,11 @@ impl<'s> Rehearsal<'s> {
 
     /// Adds the stop at a closure that was called with this entry. If a growth copies while both threads run, adds a copied entry. `Err`:
     /// no memory.
-    fn hear_closure(&mut self, replay: &Replay<'_, '_>, entry: u64) -> Result<(), ReplayFault> {
+    fn hear_closure<A: Low + Copy>(
+        &mut self,
+        replay: &Replay<'_, A>,
+        entry: u64,
+    ) -> Result<(), ReplayFault> {
         let (call, hash) = (self.call, self.script.hash());
         if self.before != Phase::Building {
             let accepted = self.script.accepted();
@@ -325,7 +333,7 @@ impl<'s> Rehearsal<'s> {
 
     /// Adds the watcher's stop at a call that was blocked, and lets both threads run. The thread of the call goes on to the lock from its
     /// last stop, if that is in this turn. `Err`: both ran already, or no memory.
-    fn hear_blocked(&mut self, replay: &Replay<'_, '_>) -> Result<(), ReplayFault> {
+    fn hear_blocked<A: Low + Copy>(&mut self, replay: &Replay<'_, A>) -> Result<(), ReplayFault> {
         check(!self.both, ReplayFault::Step(self.call))?;
         if let Some(stop) = self.running.stops.last_mut() {
             if stop.turn == self.turn {
@@ -343,7 +351,11 @@ impl<'s> Rehearsal<'s> {
 
     /// Adds the stop at the reply of the call that has ended. After a top call the turn ends. If both threads run, the other one's call goes
     /// on, and after that a new turn begins. `Err`: the table and the machine differ, or no memory.
-    fn end_call(&mut self, replay: &mut Replay<'_, '_>, said: Said) -> Result<(), ReplayFault> {
+    fn end_call<A: Low + Copy>(
+        &mut self,
+        replay: &mut Replay<'_, A>,
+        said: Said,
+    ) -> Result<(), ReplayFault> {
         replay.compare_walk()?;
         granted(self.ended.push((self.call, said)))?;
         let _open = self.running.open.pop();
@@ -380,9 +392,9 @@ impl<'s> Rehearsal<'s> {
     }
 
     /// Ends the turn after a step at which the call's thread can wait, if the plan says so. `Err`: no memory.
-    fn hear_moved(
+    fn hear_moved<A: Low + Copy>(
         &mut self,
-        replay: &Replay<'_, '_>,
+        replay: &Replay<'_, A>,
         asked: bool,
         phase: Phase,
     ) -> Result<(), ReplayFault> {
@@ -403,7 +415,7 @@ impl<'s> Rehearsal<'s> {
 }
 
 impl Schedule for Rehearsal<'_> {
-    fn next(&mut self, replay: &mut Replay<'_, '_>) -> Result<Turn, ReplayFault> {
+    fn next<A: Low + Copy>(&mut self, replay: &mut Replay<'_, A>) -> Result<Turn, ReplayFault> {
         if let Some(ask) = self.due {
             self.due = None;
             return self.begin(replay, ask, None);
@@ -420,7 +432,11 @@ impl Schedule for Rehearsal<'_> {
         Ok(replay.step(open.place, true, 0))
     }
 
-    fn hear(&mut self, replay: &mut Replay<'_, '_>, stepped: Stepped) -> Result<(), ReplayFault> {
+    fn hear<A: Low + Copy>(
+        &mut self,
+        replay: &mut Replay<'_, A>,
+        stepped: Stepped,
+    ) -> Result<(), ReplayFault> {
         replay.follow(stepped)?;
         let met = replay.script.take_met();
         if let Some(entry) = met {

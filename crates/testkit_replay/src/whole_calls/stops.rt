@@ -2,6 +2,7 @@
 use crate::item::Said;
 use crate::replay::{Ground, Refusals};
 use crate::schedules::Ask;
+use table_cell::Low;
 
 /// What a table shows: its length, its number of buckets, and a number that is made of its entries in order.
 #[derive(Clone, Copy, PartialEq)]
@@ -20,7 +21,7 @@ fn joined(made: u64, part: u64) -> u64 {
 
 impl Sight {
     /// Returns what the table of this ground shows now.
-    pub(crate) fn of(ground: Ground<'_, '_>) -> Sight {
+    pub(crate) fn of<A: Low + Copy>(ground: Ground<'_, A>) -> Sight {
         let mut entries = 0u64;
         for entry in ground.table.iter() {
             entries = joined(

@@ -7,9 +7,8 @@ use demo_examples::shared::share_both;
 use lock_free_hashtable::sharded::HeldShardedTable;
 use lock_free_hashtable::{HeldRawTable, InPlace};
 use std::process::Abort;
+use table_cell::Low;
 use testkit::refusing::{Heap, counted};
-
-type Memory<'a> = &'a Heap;
 
 /// How many words the first table has.
 const WORDS: u64 = 40;
@@ -21,7 +20,7 @@ const COUNTED: u64 = 1 << 32;
 const SUM: u64 = WORDS * COUNTED + 780;
 
 /// Makes a raw table of the words below `words`.
-fn raw<'a>(memory: Memory<'a>, words: u64) -> HeldRawTable<InPlace<u64>, Memory<'a>> {
+fn raw<A: Low + Copy>(memory: A, words: u64) -> HeldRawTable<InPlace<u64>, A> {
     let mut table = HeldRawTable::new(memory);
     for word in 0..words {
         let same = |a: &u64, b: &u64| *a == *b;
@@ -32,8 +31,8 @@ fn raw<'a>(memory: Memory<'a>, words: u64) -> HeldRawTable<InPlace<u64>, Memory<
 }
 
 /// Makes a table over two shards of the words below `words`.
-fn sharded<'a>(memory: Memory<'a>, words: u64) -> HeldShardedTable<InPlace<u64>, 2, Memory<'a>> {
-    let mut table = HeldShardedTable::new(memory);
+fn sharded<'a>(heap: &'a Heap, words: u64) -> HeldShardedTable<InPlace<u64>, 2, &'a Heap> {
+    let mut table = HeldShardedTable::new(heap);
     for word in 0..words {
         let same = |a: &u64, b: &u64| *a == *b;
         let hash = |a: &u64| a.reverse_bits();
@@ -60,33 +59,39 @@ fn sum_of<'a, I: Iterator<Item = &'a u64> + Drop>(walk: I) -> u64
 }
 
 /// Asserts the sums of the two shared tables, and that no request was made after the first `granted` ones.
-fn assert_shared(rt: &impl Abort, memory: Memory<'_>, granted: u64, sums: [u64; 2]) {
+fn assert_unasked(rt: &impl Abort, heap: &Heap, granted: u64, sums: [u64; 2]) {
     assert_same(rt, sums, [SUM, 0]);
     assert_same(
         rt,
-        [memory.granted(), memory.refusals_left()],
+        [heap.granted(), heap.refusals_left()],
         [granted, u64::MAX],
     );
 }
 
-#[test]
-fn raw_tables_are_shared_without_memory(rt: HostRuntime) {
-    let memory = counted(rt.alloc());
-    let (one, other) = (raw(&memory, WORDS), raw(&memory, 0));
-    let granted = memory.granted();
-    memory.refuse(0, u64::MAX);
+/// Makes two raw tables over this memory, and asserts that they are shared while the heap refuses each request.
+fn assert_raw_shared<A: Low + Copy>(rt: &impl Abort, heap: &Heap, memory: A) {
+    let (one, other) = (raw(memory, WORDS), raw(memory, 0));
+    let granted = heap.granted();
+    heap.refuse(0, u64::MAX);
     let (one, other) = share_both(one, other);
     let sums = [sum_of((&one).into_iter()), sum_of((&other).into_iter())];
-    assert_shared(&rt, &memory, granted, sums);
+    assert_unasked(rt, heap, granted, sums);
+}
+
+#[test]
+fn raw_tables_are_shared_without_memory(rt: HostRuntime) {
+    let heap = counted(rt.alloc());
+    assert_raw_shared(&rt, &heap, &heap);
+    assert!(rt; heap.granted() != 0);
 }
 
 #[test]
 fn tables_over_shards_are_shared_without_memory(rt: HostRuntime) {
-    let memory = counted(rt.alloc());
-    let (one, other) = (sharded(&memory, WORDS), sharded(&memory, 0));
-    let granted = memory.granted();
-    memory.refuse(0, u64::MAX);
+    let heap = counted(rt.alloc());
+    let (one, other) = (sharded(&heap, WORDS), sharded(&heap, 0));
+    let granted = heap.granted();
+    heap.refuse(0, u64::MAX);
     let (one, other) = share_both(one, other);
     let sums = [sum_of((&one).into_iter()), sum_of((&other).into_iter())];
-    assert_shared(&rt, &memory, granted, sums);
+    assert_unasked(&rt, &heap, granted, sums);
 }

@@ -28,8 +28,8 @@ fn assert_knows<A: Allocator + Copy>(rt: &impl Abort, interner: &Interner<A>, kn
 }
 
 /// Interns all texts. A text that is refused is interned again. Returns the number of the refused text, or 0 if none was refused.
-fn intern_all<A: Allocator + Copy>(rt: &impl Abort, alloc: A) -> u32 {
-    let mut interner = Interner::new(alloc);
+fn intern_all<A: Allocator + Copy>(rt: &impl Abort, memory: A) -> u32 {
+    let mut interner = Interner::new(memory);
     let mut refused = 0;
     for (place, text) in TEXTS.iter().enumerate() {
         let number = place as u32 + 1;
@@ -72,24 +72,30 @@ fn each_request_is_refused_in_turn(rt: HostRuntime) -> Result<(), Fail> {
     Ok(())
 }
 
-/// Interns all texts while all requests after the first `granted` ones are refused. Returns whether all were interned. If they were,
-/// asserts that calls on known texts make no request.
-fn is_known_with(rt: &impl Abort, alloc: Global, granted: u64) -> bool {
-    let heap = Refusing::new(alloc, Rule::new(0, usize::MAX, granted, u64::MAX));
-    let mut interner = Interner::new(&heap);
+/// Interns all texts by an interner over this memory. Returns whether all were interned. If they were, asserts that calls on known texts
+/// make no request. The heap refuses requests of the memory.
+fn is_known_over<A: Allocator + Copy>(rt: &impl Abort, heap: &Refusing<Global>, memory: A) -> bool {
+    let mut interner = Interner::new(memory);
     for text in TEXTS {
         if intern(rt, &mut interner, text) == 0 {
             return false;
         }
     }
+    assert!(rt; heap.granted() != 0);
     let left = heap.refusals_left();
     for (place, text) in TEXTS.iter().enumerate() {
         assert_same(rt, intern(rt, &mut interner, text), place as u32 + 1);
     }
     assert_knows(rt, &interner, TEXTS.len() as u32);
-    assert_knows(rt, &Interner::new(&heap), 0);
+    assert_knows(rt, &Interner::new(memory), 0);
     assert_same(rt, heap.refusals_left(), left);
     true
+}
+
+/// Returns whether all texts are interned while all requests after the first `granted` ones are refused.
+fn is_known_with(rt: &impl Abort, alloc: Global, granted: u64) -> bool {
+    let heap = Refusing::new(alloc, Rule::new(0, usize::MAX, granted, u64::MAX));
+    is_known_over(rt, &heap, &heap)
 }
 
 #[test]

@@ -1,7 +1,7 @@
 //! The requests for memory that an interner makes, and their order.
 use super::{assert_same, text_of};
 use interner::{Interner, Refused};
-use std::alloc::Global;
+use std::alloc::{Allocator, Global};
 use std::process::Abort;
 use std::test::Fail;
 use testkit::refusing::{Refusing, Rule};
@@ -17,26 +17,23 @@ const LONG: usize = 5000;
 const ORDER: [(usize, usize); 3] = [(100, 1000), (LONG, LONG), (1, 64)];
 
 /// Makes an interner on this memory, and interns the first texts.
-fn interner_of_first<'a>(
-    rt: &impl Abort,
-    heap: &'a Refusing<Global>,
-) -> Interner<&'a Refusing<Global>> {
-    let mut interner = Interner::new(heap);
+fn interner_of_first<A: Allocator + Copy>(rt: &impl Abort, memory: A) -> Interner<A> {
+    let mut interner = Interner::new(memory);
     for text in FIRST {
         assert!(rt; interner.intern_alone(text).is_ok());
     }
     interner
 }
 
-/// Interns the text while the request of a size in this range is refused. Returns how many requests the text was granted before it.
-fn granted_before(
+/// Interns the text over this memory while the heap refuses the next request that its rule counts. Returns how many requests the text was
+/// granted before that one.
+fn granted_before<A: Allocator + Copy>(
     rt: &impl Abort,
-    alloc: Global,
+    heap: &Refusing<Global>,
+    memory: A,
     text: &str,
-    (least, most): (usize, usize),
 ) -> u64 {
-    let heap = Refusing::new(alloc, Rule::new(least, most, 0, 0));
-    let mut interner = interner_of_first(rt, &heap);
+    let mut interner = interner_of_first(rt, memory);
     heap.refuse(0, 1);
     let before = heap.granted();
     assert!(rt; interner.intern_alone(text) == Err(Refused::NoMemory));
@@ -55,19 +52,20 @@ fn granted_before(
 #[test]
 fn room_then_the_text_then_the_table(rt: HostRuntime) -> Result<(), Fail> {
     let text = "x".repeat(rt.alloc(), LONG)?;
-    for (place, sizes) in ORDER.iter().enumerate() {
-        let granted = granted_before(&rt, rt.alloc(), text.as_str(), *sizes);
+    for (place, (least, most)) in ORDER.iter().enumerate() {
+        let heap = Refusing::new(rt.alloc(), Rule::new(*least, *most, 0, 0));
+        let granted = granted_before(&rt, &heap, &heap, text.as_str());
         assert_same(&rt, granted, place as u64);
     }
     Ok(())
 }
 
-/// Checks that a new text for which no number is left makes no request for memory and changes nothing.
-#[test]
-fn want_of_numbers_asks_for_no_memory(rt: HostRuntime) {
-    let heap = Refusing::new(rt.alloc(), Rule::new(0, usize::MAX, u64::MAX, 0));
-    let mut interner = interner_of_first(&rt, &heap);
+/// Asserts that a new text for which no number is left makes no request for memory and changes nothing. The heap counts the requests of the
+/// memory.
+fn assert_no_request<A: Allocator + Copy>(rt: &impl Abort, heap: &Refusing<Global>, memory: A) {
+    let mut interner = interner_of_first(rt, memory);
     let granted = heap.granted();
+    assert!(rt; granted != 0);
     heap.refuse(0, u64::MAX);
     for greatest in [0, 1, 4] {
         assert!(rt; interner.intern_up_to("five", greatest) == Err(Refused::Numbers));
@@ -77,10 +75,10 @@ fn want_of_numbers_asks_for_no_memory(rt: HostRuntime) {
                 .is_ok_and(|number| number.get() == 4)
         );
     }
-    assert_same(&rt, heap.granted(), granted);
-    assert_same(&rt, heap.refusals_left(), u64::MAX);
-    assert_same(&rt, interner.len_alone(), FIRST.len());
-    assert_same(&rt, text_of(&interner, 5), None);
+    assert_same(rt, heap.granted(), granted);
+    assert_same(rt, heap.refusals_left(), u64::MAX);
+    assert_same(rt, interner.len_alone(), FIRST.len());
+    assert_same(rt, text_of(&interner, 5), None);
     heap.refuse(0, 0);
     assert!(rt;
         interner
@@ -88,4 +86,10 @@ fn want_of_numbers_asks_for_no_memory(rt: HostRuntime) {
             .is_ok_and(|number| number.get() == 5)
     );
     assert!(rt; interner.intern_up_to("six", 5) == Err(Refused::Numbers));
+}
+
+#[test]
+fn want_of_numbers_asks_for_no_memory(rt: HostRuntime) {
+    let heap = Refusing::new(rt.alloc(), Rule::new(0, usize::MAX, u64::MAX, 0));
+    assert_no_request(&rt, &heap, &heap);
 }
