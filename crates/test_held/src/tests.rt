@@ -52,11 +52,11 @@ fn a_table_without_entries(rt: HostRuntime) {
 #[test]
 fn answers_of_a_first_generation(rt: HostRuntime) -> Result<(), Fail> {
     let mut pairs = Pairs::new(rt.alloc());
-    for (pair, answer) in INSERTS {
-        pairs.assert_insert(&rt, pair, answer)?;
+    for (pair, answer) in &INSERTS {
+        pairs.assert_insert(&rt, *pair, *answer)?;
     }
-    for (pair, is_entry) in LOOKUPS {
-        pairs.assert_shown(&rt, pair, is_entry);
+    for (pair, is_entry) in &LOOKUPS {
+        pairs.assert_shown(&rt, *pair, *is_entry);
     }
     pairs.assert_size(&rt, 3, 16);
     Ok(())

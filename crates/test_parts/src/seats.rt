@@ -87,9 +87,11 @@ fn insert_new(rt: &impl Abort, table: &NumberTable<Global>, seat: &mut Seat, n: 
     ensures { IsSeatOf table.now seat.new }
 {
     if let Some(v) = NonZeroU64::new(n) {
-        assert!(rt; !table.contains(seat, v), "{n} before");
-        assert_eq!(rt; table.insert(seat, v), NumberAnswer::Placed, "{n}");
-        assert!(rt; table.contains(seat, v), "{n} after");
+        let before = table.contains(seat, v);
+        let answer = table.insert(seat, v);
+        let after = table.contains(seat, v);
+        let wanted = (n, false, NumberAnswer::Placed, true);
+        assert_same(rt, (n, before, answer, after), wanted);
     }
 }
 
@@ -214,10 +216,8 @@ fn four_threads_place_each_number_once(rt: HostRuntime) -> Result<(), Fail> {
     let all = insert_in_threads(&rt, &table, seats, 8)?;
     assert_placed_once(&rt, all.as_slice(), 8);
     let (seat, answers) = insert_to(&table, seat, 9);
-    assert_eq!(rt;
-        (answers.placed, answers.found, answers.full),
-        (0, numbers_to(8), bit(9))
-    );
+    let bits = (answers.placed, answers.found, answers.full);
+    assert_same(&rt, bits, (0, numbers_to(8), bit(9)));
     let (_, mut newcomer) = two_of(&table, seat);
     assert_same(&rt, found_to(&table, &mut newcomer, 9), numbers_to(8));
     Ok(())
@@ -285,7 +285,8 @@ fn every_word_was_handed_in(rt: HostRuntime) -> Result<(), Fail> {
 
 #[test]
 fn tables_of_other_sizes_are_filled(rt: HostRuntime) -> Result<(), Fail> {
-    for count in SIZES {
+    for count in &SIZES {
+        let count = *count;
         let numbers: Vec<u64> = (1..(count as u64).saturating_add(1)).collect(rt.alloc())?;
         let (table, seat) = table_of(&rt, rt.alloc(), count)?;
         let mut seat = insert_each(&rt, &table, seat, numbers.as_slice());

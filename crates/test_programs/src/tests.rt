@@ -123,13 +123,23 @@ impl Script {
 
     /// Adds a line or a range of lines, each with this reply. `Err` means that a number can't be parsed, or that memory was refused.
     fn push(&mut self, line: &str, reply: Option<&str>) -> Result<(), Fail> {
-        let Some((from, to)) = line.split_once("..") else {
-            writeln!(self.input, "{line}")?;
-            return self.push_reply(reply);
-        };
-        let (to, shift) = to.split_once(" << ").unwrap_or((to, "0"));
-        let shift = shift.parse::<u32>()?;
-        for k in from.parse::<u64>()?..to.parse::<u64>()? {
+        if let Some((from, rest)) = line.split_once("..") {
+            let (to, shift) = rest.split_once(" << ").unwrap_or((rest, "0"));
+            return self.push_range(from.parse()?, to.parse()?, shift.parse()?, reply);
+        }
+        writeln!(self.input, "{line}")?;
+        self.push_reply(reply)
+    }
+
+    /// Adds an insert of each of these numbers, whose hashes are shifted left by `shift` bits. `Err` means that memory was refused.
+    fn push_range(
+        &mut self,
+        from: u64,
+        to: u64,
+        shift: u32,
+        reply: Option<&str>,
+    ) -> Result<(), Fail> {
+        for k in from..to {
             writeln!(self.input, "i {} {k}", k.wrapping_shl(shift))?;
             self.push_reply(reply)?;
         }

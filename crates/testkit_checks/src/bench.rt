@@ -42,19 +42,29 @@ const TEXTS: &str = "texts-shared-interner";
 
 /// Runs a workload of each measurement once, without a clock, and prints counts. `Err`: memory was refused, or the output failed.
 pub fn check_all<R: Print + Threads + Wait + Sync + AllocGlobal>(rt: &R) -> io::Result<()> {
-    check_held::<NumberSet<Box<u64>>, R>(rt, HELD)?;
-    check_held::<NumberSet<InPlace<u64>>, R>(rt, HELD_IN_PLACE)?;
-    check_held::<HeldSetKeys<InPlace<u64>>, R>(rt, HELD_SET)?;
-    check_held::<HeldShards<InPlace<u64>>, R>(rt, HELD_SHARDS)?;
-    check_shared::<SharedNumbers<Box<u64>>, R>(rt, SHARED)?;
-    check_shared::<SharedNumbers<InPlace<u64>>, R>(rt, SHARED_IN_PLACE)?;
-    check_shared::<SharedSetKeys, R>(rt, SHARED_SET)?;
-    check_shared::<SharedShards<InPlace<u64>>, R>(rt, SHARED_SHARDS)?;
-    check_shared::<SharedSetRecords, R>(rt, RECORDS)?;
+    check_by_one(rt)?;
+    check_by_threads(rt)?;
     check_texts(rt, TEXTS)?;
     check_seats(rt)?;
     check_schedules(rt)?;
     check_interner(rt)
+}
+
+/// Runs a workload of each measurement of a single-owner set. `Err`: memory was refused, or the output failed.
+fn check_by_one<R: Print + AllocGlobal>(rt: &R) -> io::Result<()> {
+    check_held::<NumberSet<Box<u64>>, R>(rt, HELD)?;
+    check_held::<NumberSet<InPlace<u64>>, R>(rt, HELD_IN_PLACE)?;
+    check_held::<HeldSetKeys<InPlace<u64>>, R>(rt, HELD_SET)?;
+    check_held::<HeldShards<InPlace<u64>>, R>(rt, HELD_SHARDS)
+}
+
+/// Runs a workload of each measurement of a set that threads share. `Err`: memory was refused, or the output failed.
+fn check_by_threads<R: Print + Threads + Wait + Sync + AllocGlobal>(rt: &R) -> io::Result<()> {
+    check_shared::<SharedNumbers<Box<u64>>, R>(rt, SHARED)?;
+    check_shared::<SharedNumbers<InPlace<u64>>, R>(rt, SHARED_IN_PLACE)?;
+    check_shared::<SharedSetKeys, R>(rt, SHARED_SET)?;
+    check_shared::<SharedShards<InPlace<u64>>, R>(rt, SHARED_SHARDS)?;
+    check_shared::<SharedSetRecords, R>(rt, RECORDS)
 }
 
 /// Runs the measurement that the words name. `list` prints the names. Without words it runs `check_all`. Other words print the usage.
@@ -90,23 +100,48 @@ fn measure<R: Print + Eprint + Clock + Files + Threads + Wait + Sync + AllocGlob
 ) -> io::Result<()> {
     let report = Report { name };
     match (name, threads) {
-        (HELD, None) => measure_held::<NumberSet<Box<u64>>, R>(rt, &report, group),
-        (HELD_IN_PLACE, None) => measure_held::<NumberSet<InPlace<u64>>, R>(rt, &report, group),
-        (HELD_SET, None) => measure_held::<HeldSetKeys<InPlace<u64>>, R>(rt, &report, group),
-        (HELD_SHARDS, None) => measure_held::<HeldShards<InPlace<u64>>, R>(rt, &report, group),
-        (SHARED, _) => measure_shared::<SharedNumbers<Box<u64>>, R>(rt, &report, group, threads),
-        (SHARED_IN_PLACE, _) => measure_shared::<SharedNumbers<InPlace<u64>>, R>(
-            rt, &report, group, threads,
-        ),
-        (SHARED_SET, _) => measure_shared::<SharedSetKeys, R>(rt, &report, group, threads),
-        (SHARED_SHARDS, _) => measure_shared::<SharedShards<InPlace<u64>>, R>(
-            rt, &report, group, threads,
-        ),
-        (RECORDS, _) => measure_shared::<SharedSetRecords, R>(rt, &report, group, threads),
+        (HELD | HELD_IN_PLACE | HELD_SET | HELD_SHARDS, None) => measure_by_one(rt, &report, group),
         (TEXTS, None) => measure_texts(rt, &report, group),
         ("seats", None) => measure_seats(rt, &report, group),
         ("core", None) => measure_schedules(rt, &report, group),
         ("interner", None) => measure_interner(rt, &report, group),
+        _ => measure_by_threads(rt, &report, group, threads),
+    }
+}
+
+/// Runs a group of the measurements of a single-owner set. `Err`: the name or the group is unknown, or a measurement failed.
+fn measure_by_one<R: Print + Eprint + Clock + Files + AllocGlobal>(
+    rt: &R,
+    report: &Report<'_>,
+    group: &str,
+) -> io::Result<()> {
+    match report.name {
+        HELD => measure_held::<NumberSet<Box<u64>>, R>(rt, report, group),
+        HELD_IN_PLACE => measure_held::<NumberSet<InPlace<u64>>, R>(rt, report, group),
+        HELD_SET => measure_held::<HeldSetKeys<InPlace<u64>>, R>(rt, report, group),
+        HELD_SHARDS => measure_held::<HeldShards<InPlace<u64>>, R>(rt, report, group),
+        _ => refuse_words(rt),
+    }
+}
+
+/// Runs a group of the measurements of a shared set, with `threads` threads. `Err`: the name or the group is unknown, it takes no such number
+/// of threads, or a measurement failed.
+fn measure_by_threads<R: Print + Eprint + Clock + Files + Threads + Wait + Sync + AllocGlobal>(
+    rt: &R,
+    report: &Report<'_>,
+    group: &str,
+    threads: Option<&str>,
+) -> io::Result<()> {
+    match report.name {
+        SHARED => measure_shared::<SharedNumbers<Box<u64>>, R>(rt, report, group, threads),
+        SHARED_IN_PLACE => measure_shared::<SharedNumbers<InPlace<u64>>, R>(
+            rt, report, group, threads,
+        ),
+        SHARED_SET => measure_shared::<SharedSetKeys, R>(rt, report, group, threads),
+        SHARED_SHARDS => measure_shared::<SharedShards<InPlace<u64>>, R>(
+            rt, report, group, threads,
+        ),
+        RECORDS => measure_shared::<SharedSetRecords, R>(rt, report, group, threads),
         _ => refuse_words(rt),
     }
 }

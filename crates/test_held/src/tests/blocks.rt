@@ -117,26 +117,26 @@ fn assert_end_of<A: Allocator + Copy>(
 
 #[test]
 fn the_end_of_a_table(rt: HostRuntime) -> Result<(), Fail> {
-    for (entries, blocks) in TABLES {
+    for (entries, blocks) in &TABLES {
         let heap = counted(rt.alloc());
-        assert_end_of(&rt, &heap, &heap, rt.alloc(), entries, blocks)?;
+        assert_end_of(&rt, &heap, &heap, rt.alloc(), *entries, *blocks)?;
     }
     Ok(())
 }
 
 #[test]
 fn values_taken_out(rt: HostRuntime) -> Result<(), Fail> {
-    for (entries, taken) in TAKEN {
+    for (entries, taken) in &TAKEN {
         let heap = counted(rt.alloc());
-        assert_taken(&rt, &heap, &heap, rt.alloc(), entries, taken)?;
+        assert_taken(&rt, &heap, &heap, rt.alloc(), *entries, *taken)?;
     }
     Ok(())
 }
 
 #[test]
 fn a_request_refused(rt: HostRuntime) -> Result<(), Fail> {
-    for (least, most, passing) in REFUSED {
-        let heap = Refusing::new(rt.alloc(), Rule::new(least, most, passing, 1));
+    for (least, most, passing) in &REFUSED {
+        let heap = Refusing::new(rt.alloc(), Rule::new(*least, *most, *passing, 1));
         assert_refused_once(&rt, &heap, &heap, rt.alloc())?;
     }
     Ok(())

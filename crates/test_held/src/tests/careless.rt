@@ -95,8 +95,8 @@ fn an_equality_that_is_never_met(rt: HostRuntime) -> Result<(), Fail> {
 fn an_equality_that_is_always_met(rt: HostRuntime) -> Result<(), Fail> {
     let always = Closures::new(Equality::Always, Hashing::Lawful);
     let mut pairs = Pairs::new(rt.alloc());
-    for (pair, answer) in ALWAYS {
-        pairs.assert_insert_by(&rt, &always, 0, pair, answer)?;
+    for (pair, answer) in &ALWAYS {
+        pairs.assert_insert_by(&rt, &always, 0, *pair, *answer)?;
     }
     pairs.assert_size(&rt, 1, 16);
     Ok(())
@@ -131,13 +131,13 @@ fn assert_lookup_asks(rt: &impl Abort, pairs: &Pairs, pair: Pair, is_shown: bool
 #[test]
 fn entries_with_other_bits_are_not_asked_about(rt: HostRuntime) -> Result<(), Fail> {
     let mut pairs = Pairs::new(rt.alloc());
-    for (pair, answer, asks) in INSERT_ASKS {
+    for (pair, answer, asks) in &INSERT_ASKS {
         let closures = Closures::lawful();
-        pairs.assert_insert_by(&rt, &closures, pair.0, pair, answer)?;
-        assert_same(&rt, closures.eq_asks(), asks);
+        pairs.assert_insert_by(&rt, &closures, pair.0, *pair, *answer)?;
+        assert_same(&rt, closures.eq_asks(), *asks);
     }
-    for (pair, is_shown, asks) in LOOKUP_ASKS {
-        assert_lookup_asks(&rt, &pairs, pair, is_shown, asks);
+    for (pair, is_shown, asks) in &LOOKUP_ASKS {
+        assert_lookup_asks(&rt, &pairs, *pair, *is_shown, *asks);
     }
     Ok(())
 }

@@ -16,7 +16,8 @@ const SIZES: [(u64, u64, usize, usize); 4] = [
 #[test]
 fn capacities_and_buckets(rt: HostRuntime) -> Result<(), Fail> {
     let mut pairs = Pairs::new(rt.alloc());
-    for (first, last, capacity, buckets) in SIZES {
+    for row in &SIZES {
+        let (first, last, capacity, buckets) = *row;
         for number in first..last.saturating_add(1) {
             pairs.assert_placed(&rt, number.saturating_sub(1)..number, capacity)?;
             assert_same(&rt, pairs.table.buckets_alone(), buckets);

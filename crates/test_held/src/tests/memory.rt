@@ -140,9 +140,9 @@ fn take_all<B: Allocator, A: Allocator + Copy>(
 
 #[test]
 fn growth_that_is_refused_comes_later(rt: HostRuntime) -> Result<(), Fail> {
-    for (granted, refused, steps) in COURSES {
-        let heap = Refusing::new(rt.alloc(), growth(granted, refused));
-        take_all(&rt, &heap, &heap, rt.alloc(), steps)?;
+    for (granted, refused, steps) in &COURSES {
+        let heap = Refusing::new(rt.alloc(), growth(*granted, *refused));
+        take_all(&rt, &heap, &heap, rt.alloc(), *steps)?;
     }
     Ok(())
 }

@@ -3,7 +3,7 @@ use super::caller::{CallEnd, Numbers, made};
 use super::growing::grown;
 use crate::same::assert_same;
 use std::alloc::Global;
-use std::process::Abort;
+use table_cell::Low;
 use table_slab::Slab;
 use testkit::refusing::{Refusing, Rule};
 
@@ -16,15 +16,20 @@ fn story(heap: &Refusing<Global>) -> Option<CallEnd> {
         set: &set,
         slab: &slab,
     };
+    after_growth(&old, heap)
+}
+
+/// Places 1 in a generation, and grows it, as `story` does.
+fn after_growth<A: Low + Copy>(old: &Numbers<'_, A>, memory: A) -> Option<CallEnd> {
     if old.put(1) != CallEnd::Placed(0) {
         return None;
     }
-    let Ok(next) = grown(&set, heap) else {
+    let Ok(next) = grown(old.set, memory) else {
         return Some(old.put(2));
     };
     let new = Numbers {
         set: &next,
-        slab: &slab,
+        slab: old.slab,
     };
     Some(new.probe(1))
 }
@@ -48,7 +53,8 @@ const ENDS: [(u64, Option<CallEnd>); 9] = [
 #[test]
 fn each_of_eight_requests_is_refused_in_turn(rt: HostRuntime) {
     let heap = Refusing::new(rt.alloc(), Rule::new(0, usize::MAX, 0, 0));
-    for (granted, answer) in ENDS {
+    for row in &ENDS {
+        let (granted, answer) = *row;
         heap.refuse(granted, 1);
         assert_same(&rt, (granted, story(&heap)), (granted, answer));
         assert_same(&rt, heap.given_back(), heap.granted());

@@ -1,5 +1,5 @@
 //! Bad lines, long lines, and inputs that are cut off.
-use super::{first_lines, line_ends, run};
+use super::{Host, first_lines, line_ends, run};
 use std::test::Fail;
 use tool_streams::blocks::BLOCK;
 
@@ -20,15 +20,27 @@ const BAD_EVENTS: &str =
     put x y ok|add 1 1|size|check 1|check 1 y|check 1 okay|check 1 ok no|check x ok|copy 1|copy 1 2 3|copy x 2|copy 1 x|\
     show 1 ok|shows 1|place 1|1|first 1 10 0";
 
+/// Asserts that `calls` ends at this line, reports it as bad, and has printed the reply to the line before. `Err`: no memory.
+fn assert_bad_call(rt: &impl Host, line: &str) -> Result<(), Fail> {
+    let input = format!(in rt.alloc(); "i 0 1\n{line}\nl 0 1\n")?;
+    run(rt, &[], input.as_bytes()).assert(rt, "placed\n", "bad line 2\n", 2);
+    Ok(())
+}
+
+/// Asserts that `core` ends at this line, reports it as bad, and has printed the reply to the lines before. `Err`: no memory.
+fn assert_bad_event(rt: &impl Host, line: &str) -> Result<(), Fail> {
+    let input = format!(in rt.alloc(); "walk 1\nload 1\n{line}\nb\n")?;
+    run(rt, &["core"], input.as_bytes()).assert(rt, "1 walk []\n", "bad line 3\n", 2);
+    Ok(())
+}
+
 #[test]
 fn a_bad_line_ends_the_run(rt: HostRuntime) -> Result<(), Fail> {
     for line in BAD_CALLS.split('|') {
-        let input = format!(in rt.alloc(); "i 0 1\n{line}\nl 0 1\n")?;
-        run(&rt, &[], input.as_bytes()).assert(&rt, "placed\n", "bad line 2\n", 2);
+        assert_bad_call(&rt, line)?;
     }
     for line in BAD_EVENTS.split('|') {
-        let input = format!(in rt.alloc(); "walk 1\nload 1\n{line}\nb\n")?;
-        run(&rt, &["core"], input.as_bytes()).assert(&rt, "1 walk []\n", "bad line 3\n", 2);
+        assert_bad_event(&rt, line)?;
     }
     Ok(())
 }
@@ -50,21 +62,32 @@ const LINES: &str = "i 5 1\nl 5 1\nw\ni 6 2\nn\nc\nl 6 1";
 
 const REPLIES: &str = "placed\nsome 1\n[1]\nplaced\n2\n16\nnone\n";
 
+/// Asserts what is printed for a beginning of `LINES`, after which the rest would follow. `Err`: no memory.
+fn assert_cut(rt: &impl Host, input: &[u8], rest: &[u8]) -> Result<(), Fail> {
+    let is_begun = !input.is_empty() && input.last() != Some(&b'\n');
+    let is_whole = rest.is_empty() || rest.first() == Some(&b'\n');
+    let lines = line_ends(input).saturating_add(usize::from(is_begun));
+    if is_begun && !is_whole {
+        return assert_bad_end(rt, input, lines);
+    }
+    let replies = first_lines(rt.alloc(), REPLIES, lines)?;
+    run(rt, &[], input).assert(rt, replies.as_str(), "", 0);
+    Ok(())
+}
+
+/// Asserts that the last of these lines is a bad one, and what is printed before. `Err`: no memory.
+fn assert_bad_end(rt: &impl Host, input: &[u8], lines: usize) -> Result<(), Fail> {
+    let replies = first_lines(rt.alloc(), REPLIES, lines.saturating_sub(1))?;
+    let message = format!(in rt.alloc(); "bad line {lines}\n")?;
+    run(rt, &[], input).assert(rt, replies.as_str(), message.as_str(), 2);
+    Ok(())
+}
+
 #[test]
 fn an_input_cut_at_every_byte(rt: HostRuntime) -> Result<(), Fail> {
     for cut in 0..=LINES.len() {
         let (input, rest) = LINES.as_bytes().split_at(cut);
-        let is_begun = !input.is_empty() && input.last() != Some(&b'\n');
-        let is_whole = rest.is_empty() || rest.first() == Some(&b'\n');
-        let lines = line_ends(input).saturating_add(usize::from(is_begun));
-        if is_begun && !is_whole {
-            let replies = first_lines(rt.alloc(), REPLIES, lines.saturating_sub(1))?;
-            let message = format!(in rt.alloc(); "bad line {lines}\n")?;
-            run(&rt, &[], input).assert(&rt, replies.as_str(), message.as_str(), 2);
-        } else {
-            let replies = first_lines(rt.alloc(), REPLIES, lines)?;
-            run(&rt, &[], input).assert(&rt, replies.as_str(), "", 0);
-        }
+        assert_cut(&rt, input, rest)?;
     }
     Ok(())
 }

@@ -1,5 +1,6 @@
 //! Commands whose requests for memory are refused.
 use super::{Host, Script, run_refusing};
+use std::alloc::Global;
 use std::test::Fail;
 use testkit::refusing::Rule;
 
@@ -53,30 +54,39 @@ fn a_walk_without_memory(rt: HostRuntime) -> Result<(), Fail> {
     assert_refusing(&rt, (16, 16, 2, 1), walk, "no memory\n")
 }
 
-/// Refuses one request of a run. The run inserts 17 pairs and the fifth again, then all of these once more, and asks for the length.
-/// Asserts that the next insert of a refused pair places it. Returns whether an insert was refused. `Err`: no memory.
+/// Inserts 17 pairs and the fifth again, then all of these once more, and asks for the length.
+const INSERTS: &str = "0..17; i 4 4; 0..17; i 4 4; n";
+
+/// The replies if no insert is refused.
+const NONE_REFUSED: &str = "0..17 = placed; x = found; 0..17 = found; x = found; n = 17";
+
+/// The replies if the fifth insert is refused. The next insert of its pair follows before the others come again.
+const FIFTH_REFUSED: &str =
+    "0..4 = placed; x = refused; 5..17 = placed; x = placed; 0..17 = found; x = found; n = 17";
+
+/// Returns the script of the replies if the first insert of this pair is refused, or no insert for `None`. The next insert of the pair places
+/// it. `Err`: no memory.
+fn replies_if(alloc: Global, refused: Option<usize>) -> Result<Script, Fail> {
+    let pair = match refused {
+        None => return Script::new(alloc, NONE_REFUSED),
+        Some(4) => return Script::new(alloc, FIFTH_REFUSED),
+        Some(pair) => pair,
+    };
+    let next = pair.saturating_add(1);
+    let text = format!(in alloc;
+        "0..{pair} = placed; x = refused; {next}..17 = placed; x = found; \
+        0..{pair} = found; x = placed; {next}..17 = found; x = found; n = 17"
+    )?;
+    Script::new(alloc, text.as_str())
+}
+
+/// Refuses one request of a run of `INSERTS`, and asserts its replies. Returns whether an insert was refused. `Err`: no memory.
 fn refuse_one(rt: &impl Host, first: &str, granted: u64) -> Result<bool, Fail> {
-    let lines = Script::new(rt.alloc(), "0..17; i 4 4; 0..17; i 4 4; n")?;
+    let lines = Script::new(rt.alloc(), INSERTS)?;
     let rule = Rule::new(0, usize::MAX, granted, 1);
     let ended = run_refusing(rt, rule, &["calls", first], lines.input.as_bytes());
     let refused = ended.text().lines().position(|reply| reply == "refused");
-    let head = match refused {
-        Some(pair) => format!(in rt.alloc();
-            "0..{pair} = placed; x = refused; {}..17 = placed",
-            pair.saturating_add(1)
-        )?,
-        None => format!(in rt.alloc(); "0..17 = placed")?,
-    };
-    let tail = match refused {
-        Some(4) => format!(in rt.alloc(); "x = placed; 0..17 = found")?,
-        Some(pair) => format!(in rt.alloc();
-            "x = found; 0..{pair} = found; x = placed; {}..17 = found",
-            pair.saturating_add(1)
-        )?,
-        None => format!(in rt.alloc(); "x = found; 0..17 = found")?,
-    };
-    let wanted = format!(in rt.alloc(); "{head}; {tail}; x = found; n = 17")?;
-    let wanted = Script::new(rt.alloc(), wanted.as_str())?;
+    let wanted = replies_if(rt.alloc(), refused)?;
     ended.assert(rt, wanted.replies.as_str(), "", 0);
     Ok(refused.is_some())
 }

@@ -73,17 +73,27 @@ fn assert_row(rt: &impl Host, row: &str) -> Result<(), Fail> {
     Ok(())
 }
 
+/// Arguments, an input that is empty or whose last line ends with it, and what is printed.
+const ENDS: [(&[&str], &str, &str); 5] = [
+    (&[], "", ""),
+    (&["calls"], "", ""),
+    (&[], "i 0 1", "placed\n"),
+    (
+        &["calls", "00000000000000000016"],
+        "i 0 1\nc",
+        "placed\n16\n",
+    ),
+    (&["core"], "lookup 2 0\nload 2", "2 none\n"),
+];
+
 #[test]
 fn rows_print_their_replies(rt: HostRuntime) -> Result<(), Fail> {
     for row in &SCRIPTS {
         assert_row(&rt, row)?;
     }
-    run(&rt, &[], b"").assert(&rt, "", "", 0);
-    run(&rt, &["calls"], b"").assert(&rt, "", "", 0);
-    // The end of the input ends a line.
-    run(&rt, &[], b"i 0 1").assert(&rt, "placed\n", "", 0);
-    run(&rt, &["calls", "00000000000000000016"], b"i 0 1\nc").assert(&rt, "placed\n16\n", "", 0);
-    run(&rt, &["core"], b"lookup 2 0\nload 2").assert(&rt, "2 none\n", "", 0);
+    for (words, input, output) in &ENDS {
+        run(&rt, *words, input.as_bytes()).assert(&rt, *output, "", 0);
+    }
     Ok(())
 }
 
@@ -95,18 +105,22 @@ fn threads_print_their_replies(rt: HostRuntime) -> Result<(), Fail> {
     Ok(())
 }
 
+/// Asserts that a table and the machine keep this first capacity. `Err`: no memory.
+fn assert_keeps(rt: &impl Host, first: u64) -> Result<(), Fail> {
+    let row = format!(in rt.alloc();
+        "tablerun calls {first}: i 0 1 = placed; c = {first}; b = {first}"
+    )?;
+    assert_row(rt, row.as_str())?;
+    let row = format!(in rt.alloc();
+        "tablerun core {first}: insert 1 10 0; share 1; load 1; free 1; own 1; check 1 ok; show 1; free 1; b = {first}"
+    )?;
+    assert_row(rt, row.as_str())
+}
+
 #[test]
 fn each_first_capacity_is_kept(rt: HostRuntime) -> Result<(), Fail> {
     for exponent in 4..=16u32 {
-        let first = 1u64 << exponent;
-        let row = format!(in rt.alloc();
-            "tablerun calls {first}: i 0 1 = placed; c = {first}; b = {first}"
-        )?;
-        assert_row(&rt, row.as_str())?;
-        let row = format!(in rt.alloc();
-            "tablerun core {first}: insert 1 10 0; share 1; load 1; free 1; own 1; check 1 ok; show 1; free 1; b = {first}"
-        )?;
-        assert_row(&rt, row.as_str())?;
+        assert_keeps(&rt, 1u64 << exponent)?;
     }
     Ok(())
 }

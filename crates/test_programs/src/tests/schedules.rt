@@ -9,11 +9,12 @@ use std::cell::Cell;
 use std::process::Abort;
 use std::test::Fail;
 use table_core::event::Event;
+use table_core::reply::Finished;
 use table_core::state::{State, run, run_with};
 use table_terms::capacity::is_first_capacity;
 use testkit::refusing::{Refusing, Rule};
 use testkit::schedules::script::push_events;
-use testkit::schedules::worked::{LOST_TO_AN_EQUAL, SCHEDULES, lines_of, printed_by};
+use testkit::schedules::worked::{LOST_TO_AN_EQUAL, Row, SCHEDULES, lines_of, printed_by};
 use tool_commands::answers::Answer;
 use tool_commands::events::{ScheduleLine, parse_schedule_line};
 use tool_commands::gate::ProgramGates;
@@ -41,27 +42,9 @@ impl Schedule {
         let (events, replies) = LOST_TO_AN_EQUAL;
         let mut input = String::new(alloc);
         push_events(&mut input, events)?;
-        let mut printed = format!(in alloc; "{replies}")?;
-        let mut entries = format!(in alloc; "10")?;
-        for call in 3..first + 4 {
-            let value = 9 + call;
-            let hash = call - 2;
-            if call < first + 2 {
-                let fills = format!(in alloc;
-                    "go {call} {value} {hash}; own {call}; check {call} no; free {call}"
-                )?;
-                push_events(&mut input, fills.as_str())?;
-            }
-            writeln!(printed, "{call} placed {value}")?;
-            write!(entries, ", {value}")?;
-        }
+        push_fills(&mut input, alloc, first)?;
         push_growths(&mut input, alloc, first)?;
-        write!(
-            printed,
-            "100 some 14\n101 none\n102 walk [{entries}]\n103 refused 200\n104 len {}\n{}\n",
-            first + 2,
-            7 * first
-        )?;
+        let printed = printed_after(alloc, replies, first)?;
         Ok(Schedule {
             first,
             input,
@@ -70,25 +53,79 @@ impl Schedule {
     }
 }
 
+/// Adds the events of a text in which each of these names stands for its number. `Err`: no memory.
+fn push_named(
+    input: &mut String,
+    alloc: Global,
+    events: &str,
+    names: &[(&str, u64)],
+) -> Result<(), Fail> {
+    let mut events = format!(in alloc; "{events}")?;
+    for (name, number) in names {
+        let digits = format!(in alloc; "{number}")?;
+        events = events.replace(alloc, *name, digits.as_str())?;
+    }
+    push_events(input, events.as_str())?;
+    Ok(())
+}
+
+/// An insert that places its value. If it wants a growth, that is refused.
+const FILL: &str = "go $call $value $hash; own $call; check $call no; free $call";
+
+/// Adds the inserts that fill the first generation. `Err`: no memory.
+fn push_fills(input: &mut String, alloc: Global, first: u64) -> Result<(), Fail>
+    requires { first < 64 }
+{
+    for call in 3..first + 2 {
+        let names = [("$call", call), ("$value", 9 + call), ("$hash", call - 2)];
+        push_named(input, alloc, FILL, names.as_slice())?;
+    }
+    Ok(())
+}
+
+/// The events of the calls `$c` and `$d`, which find the first generation full and place `$v` and `$w` in later ones, and of the calls after
+/// them.
+const GROWTHS: &str = "insert $c $v 0; share $c; load $c; $first times read $c n; free $c; \
+    insert $d $w 0; share $d; load $d; $first times read $d n; free $d; \
+    own $c; check $c ok; copies $c $first; show $c; free $c; \
+    own $d; check $d ok; copies $d $first; show $d; free $d; \
+    share $c; load $c; $b times read $c n; put $c n ok; add $c; free $c; size $c; \
+    share $d; load $d; $c times read $d n; put $d n ok; add $d; free $d; size $d; \
+    lookup 100 3; load 100; read 100 y; lookup 101 $b; load 101; read 101 n; read 101 n; \
+    walk 102; load 102; $all times read 102 n; \
+    insert 103 200 $c; share 103; load 103; read 103 n; put 103 n no; free 103; len 104; load 104; size 104; b";
+
 /// Adds the end of the schedule, which begins with the two calls that find the first generation full. `Err`: no memory.
 fn push_growths(input: &mut String, alloc: Global, first: u64) -> Result<(), Fail>
     requires { first < 64 }
 {
-    let (b, c, d) = (first + 1, first + 2, first + 3);
-    let (v, w, all) = (first + 11, first + 12, 4 * first);
-    let events = format!(in alloc;
-        "insert {c} {v} 0; share {c}; load {c}; {first} times read {c} n; free {c}; \
-        insert {d} {w} 0; share {d}; load {d}; {first} times read {d} n; free {d}; \
-        own {c}; check {c} ok; copies {c} {first}; show {c}; free {c}; \
-        own {d}; check {d} ok; copies {d} {first}; show {d}; free {d}; \
-        share {c}; load {c}; {b} times read {c} n; put {c} n ok; add {c}; free {c}; size {c}; \
-        share {d}; load {d}; {c} times read {d} n; put {d} n ok; add {d}; free {d}; size {d}; \
-        lookup 100 3; load 100; read 100 y; lookup 101 {b}; load 101; read 101 n; read 101 n; \
-        walk 102; load 102; {all} times read 102 n; \
-        insert 103 200 {c}; share 103; load 103; read 103 n; put 103 n no; free 103; len 104; load 104; size 104; b"
-    )?;
-    push_events(input, events.as_str())?;
-    Ok(())
+    let names = [
+        ("$first", first),
+        ("$b", first + 1),
+        ("$c", first + 2),
+        ("$d", first + 3),
+        ("$v", first + 11),
+        ("$w", first + 12),
+        ("$all", 4 * first),
+    ];
+    push_named(input, alloc, GROWTHS, names.as_slice())
+}
+
+/// Returns these replies, and what the schedule prints after them. `Err`: no memory.
+fn printed_after(alloc: Global, replies: &str, first: u64) -> Result<String, Fail>
+    requires { first < 64 }
+{
+    let mut printed = format!(in alloc; "{replies}")?;
+    let mut entries = format!(in alloc; "10")?;
+    for call in 3..first + 4 {
+        let value = 9 + call;
+        writeln!(printed, "{call} placed {value}")?;
+        write!(entries, ", {value}")?;
+    }
+    writeln!(printed, "100 some 14\n101 none\n102 walk [{entries}]")?;
+    let (length, buckets) = (first + 2, 7 * first);
+    writeln!(printed, "103 refused 200\n104 len {length}\n{buckets}")?;
+    Ok(printed)
 }
 
 /// How a schedule is run.
@@ -129,14 +166,7 @@ fn run_events<A: Allocator + Copy>(
     alloc: A,
     schedule: &Schedule,
 ) -> Result<Option<usize>, Fail> {
-    let mut events = Vec::new(rt.alloc());
-    for line in schedule.input.lines() {
-        match parse_schedule_line(line.as_bytes()) {
-            Some(ScheduleLine::Step(event)) => events.push(event)?,
-            Some(ScheduleLine::Buckets) => (),
-            None => return Err(Fail::from("no line")),
-        }
-    }
+    let events = events_of(rt.alloc(), schedule)?;
     assert!(rt; is_first_capacity(schedule.first));
     let replies = match schedule.first {
         16 => run(alloc, events.as_slice()),
@@ -145,13 +175,35 @@ fn run_events<A: Allocator + Copy>(
     let Ok(replies) = replies else {
         return Ok(Some(0));
     };
-    let mut lines = String::new(rt.alloc());
-    for finished in &replies {
-        writeln!(lines, "{}", Answer { finished })?;
-    }
+    let lines = replies_as_lines(rt.alloc(), replies.as_slice())?;
     let wanted = replies_among(rt.alloc(), schedule.printed.as_str())?;
     assert_same(rt, lines.as_str(), wanted.as_str());
     Ok(None)
+}
+
+/// Returns the events of a schedule. `Err`: no memory, or a line that is no event.
+fn events_of(alloc: Global, schedule: &Schedule) -> Result<Vec<Event>, Fail> {
+    let mut events = Vec::new(alloc);
+    for line in schedule.input.lines() {
+        match parse_schedule_line(line.as_bytes()) {
+            Some(ScheduleLine::Step(event)) => events.push(event)?,
+            Some(ScheduleLine::Buckets) => (),
+            None => return Err(Fail::from("no line")),
+        }
+    }
+    Ok(events)
+}
+
+/// Returns the lines of these replies. `Err`: no memory.
+fn replies_as_lines<A: Allocator + Copy>(
+    alloc: Global,
+    replies: &[Finished<A>],
+) -> Result<String, Fail> {
+    let mut lines = String::new(alloc);
+    for finished in replies {
+        writeln!(lines, "{}", Answer { finished })?;
+    }
+    Ok(lines)
 }
 
 /// Returns the lines of finished calls among these lines, which are those with a space. `Err`: no memory.
@@ -165,8 +217,7 @@ fn replies_among(alloc: Global, printed: &str) -> Result<String, Fail> {
     Ok(replies)
 }
 
-/// Takes the lines one by one, and asserts what they print. Asserts after each that there are as many buckets as with ample memory. Returns
-/// 0 if a step was refused. `Err`: no memory for the test itself.
+/// Takes the lines one by one, and asserts what they print. Returns 0 if a step was refused. `Err`: no memory for the test itself.
 fn take_steps<A: Allocator + Copy>(
     rt: &(impl AllocGlobal + Abort),
     alloc: A,
@@ -178,20 +229,36 @@ fn take_steps<A: Allocator + Copy>(
     let mut printed = String::new(rt.alloc());
     let mut refused = None;
     for line in schedule.input.lines() {
-        match parse_schedule_line(line.as_bytes()) {
-            Some(ScheduleLine::Step(event)) => {
-                ample.step(event)?;
-                if take_event(rt, &mut state, event, &mut printed)? {
-                    refused = Some(0);
-                }
-            }
-            Some(ScheduleLine::Buckets) => writeln!(printed, "{}", state.buckets())?,
-            None => return Err(Fail::from("no line")),
+        if take_line(rt, &mut ample, &mut state, line, &mut printed)? {
+            refused = Some(0);
         }
-        assert_same(rt, state.buckets(), ample.buckets());
     }
     assert_same(rt, printed.as_str(), schedule.printed.as_str());
     Ok(refused)
+}
+
+/// Takes a line. Asserts that there are then as many buckets as with ample memory. Returns whether a step was refused. `Err`: no memory for
+/// the test itself.
+fn take_line<A: Allocator + Copy>(
+    rt: &impl Abort,
+    ample: &mut State,
+    state: &mut State<A>,
+    line: &str,
+    printed: &mut String,
+) -> Result<bool, Fail> {
+    let is_refused = match parse_schedule_line(line.as_bytes()) {
+        Some(ScheduleLine::Step(event)) => {
+            ample.step(event)?;
+            take_event(rt, state, event, printed)?
+        }
+        Some(ScheduleLine::Buckets) => {
+            writeln!(printed, "{}", state.buckets())?;
+            false
+        }
+        None => return Err(Fail::from("no line")),
+    };
+    assert_same(rt, state.buckets(), ample.buckets());
+    Ok(is_refused)
 }
 
 /// Takes the step of an event, and takes it again if it is refused. Asserts that a refused step keeps the number of buckets. Returns
@@ -262,22 +329,33 @@ fn run_lines<A: Low + Copy + Send + Sync>(rt: &impl Host, alloc: A) -> Result<Op
     let (sent, mut seen) = (Cell::new(0), Vec::new(rt.alloc()));
     let reader = Asking::new(script.input.as_bytes(), &sent, &mut seen);
     let ended = run_under(rt, alloc, &ProgramGates, &["core"], reader);
-    let taken = ASKING.split("; ").take(seen.len().saturating_sub(1));
-    let lines = taken.filter(|part| part.contains(" = ")).count();
+    let lines = replies_to(seen.len().saturating_sub(1));
     assert_begun(rt, &ended, script.replies.as_str(), lines)
+}
+
+/// Returns how many of the first `count` lines of `ASKING` have a reply.
+fn replies_to(count: usize) -> usize {
+    let taken = ASKING.split("; ").take(count);
+    taken.filter(|part| part.contains(" = ")).count()
+}
+
+/// Asserts what a schedule prints, in each way that can run it. `Err`: no memory.
+fn assert_worked(rt: &impl Host, row: &Row) -> Result<(), Fail> {
+    let schedule = Schedule {
+        first: row.0,
+        input: lines_of(rt.alloc(), row)?,
+        printed: printed_by(rt.alloc(), row)?,
+    };
+    for way in [Way::Run, Way::Steps, Way::Command] {
+        assert!(rt; way.take(rt, rt.alloc(), &schedule)?.is_none());
+    }
+    Ok(())
 }
 
 #[test]
 fn worked_schedules(rt: HostRuntime) -> Result<(), Fail> {
     for row in &SCHEDULES {
-        let schedule = Schedule {
-            first: row.0,
-            input: lines_of(rt.alloc(), row)?,
-            printed: printed_by(rt.alloc(), row)?,
-        };
-        for way in [Way::Run, Way::Steps, Way::Command] {
-            assert!(rt; way.take(&rt, rt.alloc(), &schedule)?.is_none());
-        }
+        assert_worked(&rt, row)?;
     }
     Ok(())
 }
@@ -303,16 +381,17 @@ fn refuse_each(rt: &impl Host, way: Way, refused: u64, schedule: &Schedule) -> R
     Err(Fail::from("no run with ample memory"))
 }
 
-#[test]
-fn each_request_of_a_schedule_is_refused_in_turn(rt: HostRuntime) -> Result<(), Fail> {
-    for schedule in [
-        Schedule::asking(rt.alloc(), 16)?,
-        Schedule::asking(rt.alloc(), 32)?,
-    ] {
-        refuse_each(&rt, Way::Run, u64::MAX, &schedule)?;
-        for way in [Way::Run, Way::Steps, Way::Command, Way::Lines] {
-            refuse_each(&rt, way, 1, &schedule)?;
-        }
+/// Refuses the requests of the schedule in turn, in each way. `Err`: a request was refused in each run, or no memory for the test itself.
+fn refuse_in_each_way(rt: &impl Host, schedule: &Schedule) -> Result<(), Fail> {
+    refuse_each(rt, Way::Run, u64::MAX, schedule)?;
+    for way in [Way::Run, Way::Steps, Way::Command, Way::Lines] {
+        refuse_each(rt, way, 1, schedule)?;
     }
     Ok(())
+}
+
+#[test]
+fn each_request_of_a_schedule_is_refused_in_turn(rt: HostRuntime) -> Result<(), Fail> {
+    refuse_in_each_way(&rt, &Schedule::asking(rt.alloc(), 16)?)?;
+    refuse_in_each_way(&rt, &Schedule::asking(rt.alloc(), 32)?)
 }

@@ -67,10 +67,11 @@ pub(super) fn run_called<A: Allocator + Copy, T: Low + Copy + Send + Sync>(
 
 #[test]
 fn words_are_the_command(rt: HostRuntime) {
-    for (arguments, printed, message, status) in ROWS {
+    for (arguments, printed, message, status) in &ROWS {
         let alloc = rt.alloc();
+        let arguments = *arguments;
         let ended = run_called(&rt, &Called { arguments, alloc }, alloc, b"i 0 1\nc\n");
-        ended.assert(&rt, printed, message, status);
+        ended.assert(&rt, *printed, *message, *status);
     }
 }
 

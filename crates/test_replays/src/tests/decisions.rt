@@ -99,16 +99,16 @@ fn check_answer(rt: &impl Abort, at: CallState, phase: Phase, answer: Answer, mo
 
 /// Asserts that in this phase these answers change this state of a call, and no others. A copy leaves the state as it is.
 fn check_phase(rt: &impl Abort, at: CallState, phase: Phase, fitting: &[Answer]) {
-    for answer in ANSWERS {
-        let moves = fitting.contains(&answer) && answer != Answer::Copied;
-        check_answer(rt, at, phase, answer, moves);
+    for answer in &ANSWERS {
+        let moves = fitting.contains(answer) && *answer != Answer::Copied;
+        check_answer(rt, at, phase, *answer, moves);
     }
 }
 
 #[test]
 fn answers_that_do_not_fit_change_nothing(rt: HostRuntime) {
-    for (phase, fitting) in FITTING {
-        check_phase(&rt, STANDING, phase, fitting);
+    for (phase, fitting) in &FITTING {
+        check_phase(&rt, STANDING, *phase, *fitting);
     }
 }
 
@@ -157,15 +157,15 @@ const WITHOUT_BUCKETS: CallState = CallState {
 
 #[test]
 fn numbers_that_can_not_be_change_nothing(rt: HostRuntime) {
-    for phase in LOADING {
-        check_answer(&rt, STANDING, phase, LOADED_NOTHING, false);
+    for phase in &LOADING {
+        check_answer(&rt, STANDING, *phase, LOADED_NOTHING, false);
     }
-    for phase in AT_A_BUCKET {
-        for state in AT_NO_BUCKET {
-            check_phase(&rt, state, phase, &[]);
+    for phase in &AT_A_BUCKET {
+        for state in &AT_NO_BUCKET {
+            check_phase(&rt, *state, *phase, &[]);
         }
     }
-    for phase in OF_A_GENERATION {
-        check_phase(&rt, WITHOUT_BUCKETS, phase, &[]);
+    for phase in &OF_A_GENERATION {
+        check_phase(&rt, WITHOUT_BUCKETS, *phase, &[]);
     }
 }

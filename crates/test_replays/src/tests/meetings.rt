@@ -60,9 +60,9 @@ fn assert_at_one_bucket<R: Abort + Threads + Wait + Sync>(
 
 #[test]
 fn an_exchange_that_is_lost(rt: HostRuntime) {
-    for (first, second, reply) in AT_ONE_BUCKET {
+    for (first, second, reply) in &AT_ONE_BUCKET {
         for _round in 0..ROUNDS {
-            assert_at_one_bucket(&rt, rt.alloc(), first, second, reply);
+            assert_at_one_bucket(&rt, rt.alloc(), *first, *second, *reply);
         }
     }
 }
@@ -85,9 +85,9 @@ fn assert_at_the_lock<R: Abort + Threads + Wait + Sync>(
 
 #[test]
 fn an_insert_that_waits_while_a_growth_copies(rt: HostRuntime) {
-    for (ask, reply) in AT_THE_LOCK {
+    for (ask, reply) in &AT_THE_LOCK {
         for _round in 0..ROUNDS {
-            assert_at_the_lock(&rt, rt.alloc(), ask, reply);
+            assert_at_the_lock(&rt, rt.alloc(), *ask, *reply);
         }
     }
 }

@@ -109,7 +109,8 @@ pub(crate) fn assert_worked<R: Abort + Threads + Wait + Sync>(
 
 #[test]
 fn whole_calls_that_are_worked(rt: HostRuntime) {
-    for (filled, then, others, expected) in ROWS {
+    for row in &ROWS {
+        let (filled, then, others, expected) = *row;
         let worked = Worked {
             filled,
             then,

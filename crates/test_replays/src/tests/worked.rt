@@ -28,9 +28,9 @@ const CLASSES: [(usize, u64, u64); 9] = [
 
 /// Returns the class of the call of this event in the schedule at this place. Without a row it is the number of the value of an insert, or 0.
 fn class_of(place: usize, event: Event) -> u64 {
-    for (schedule, call, class) in CLASSES {
-        if schedule == place && call == event.call() {
-            return class;
+    for (schedule, call, class) in &CLASSES {
+        if *schedule == place && *call == event.call() {
+            return *class;
         }
     }
     match event {

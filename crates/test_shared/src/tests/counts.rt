@@ -116,9 +116,9 @@ fn assert_meets<R: Abort + Threads + Wait + Sync>(rt: &R, alloc: Global, meeting
 
 #[test]
 fn the_loser_at_the_last_bucket_is_placed(rt: HostRuntime) {
-    for meeting in AT_THE_LAST_BUCKET {
+    for meeting in &AT_THE_LAST_BUCKET {
         for _again in 0..10u32 {
-            assert_meets(&rt, rt.alloc(), meeting);
+            assert_meets(&rt, rt.alloc(), *meeting);
         }
     }
 }

@@ -143,11 +143,11 @@ fn assert_lost<R: Abort + Threads + Wait + Sync, A: Low + Copy + Send + Sync>(
 
 #[test]
 fn values_over_growth_and_of_lost_exchanges(rt: HostRuntime) -> Result<(), Fail> {
-    for taken in TAKEN {
+    for taken in &TAKEN {
         let grown = Refusing::new(rt.alloc(), Rule::new(0, 0, 0, 0));
-        assert_grown(&rt, rt.alloc(), &grown, &grown, taken)?;
+        assert_grown(&rt, rt.alloc(), &grown, &grown, *taken)?;
         let lost = paired(rt.alloc(), LOST);
-        assert_lost(&rt, rt.alloc(), &lost, &lost, taken)?;
+        assert_lost(&rt, rt.alloc(), &lost, &lost, *taken)?;
     }
     Ok(())
 }

@@ -30,8 +30,8 @@ fn assert_result(rt: &impl Abort, got: Result<(), RoundFault>, expected: Result<
 
 #[test]
 fn each_value_is_accounted_for(rt: HostRuntime) {
-    for (back, entries, expected) in ACCOUNTS {
-        assert_result(&rt, account(rt.alloc(), back, entries), expected);
+    for (back, entries, expected) in &ACCOUNTS {
+        assert_result(&rt, account(rt.alloc(), *back, *entries), *expected);
     }
 }
 
@@ -53,7 +53,7 @@ fn compare(alloc: Global, walked: &[u64], handed: &[u64]) -> Result<(), RoundFau
 
 #[test]
 fn a_walk_is_what_is_handed_out(rt: HostRuntime) {
-    for (walked, handed, expected) in WALKS {
-        assert_result(&rt, compare(rt.alloc(), walked, handed), expected);
+    for (walked, handed, expected) in &WALKS {
+        assert_result(&rt, compare(rt.alloc(), *walked, *handed), *expected);
     }
 }

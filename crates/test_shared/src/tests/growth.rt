@@ -113,7 +113,8 @@ fn assert_filled_on<R: Abort + Threads + Wait + Sync>(
 
 #[test]
 fn a_table_held_alone_is_filled_on(rt: HostRuntime) -> Result<(), Fail> {
-    for (first_capacity, before, after) in SHARED {
+    for row in &SHARED {
+        let (first_capacity, before, after) = *row;
         assert!(rt; is_first_capacity(first_capacity));
         assert_filled_on(&rt, rt.alloc(), first_capacity, before, after)?;
     }

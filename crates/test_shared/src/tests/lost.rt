@@ -106,10 +106,10 @@ fn assert_met<R: Abort + Threads + Wait + Sync, A: Low + Copy + Send + Sync>(
 
 #[test]
 fn two_threads_at_one_empty_bucket(rt: HostRuntime) -> Result<(), Fail> {
-    for meeting in MEETINGS {
+    for meeting in &MEETINGS {
         for _again in 0..10u32 {
             let heap = paired(rt.alloc(), 1);
-            assert_met(&rt, rt.alloc(), &heap, &heap, meeting)?;
+            assert_met(&rt, rt.alloc(), &heap, &heap, *meeting)?;
         }
     }
     Ok(())

@@ -50,7 +50,8 @@ fn assert_round<R: Abort + Threads + Wait + Sync>(rt: &R, alloc: Global, round: 
 
 #[test]
 fn lawful_closures(rt: HostRuntime) {
-    for (kind, threads, each, first_capacity, different) in LAWFUL {
+    for row in &LAWFUL {
+        let (kind, threads, each, first_capacity, different) = *row;
         let round = Round {
             kind,
             threads,
@@ -79,7 +80,8 @@ fn one_thread_loses_no_exchange(rt: HostRuntime) {
 /// Checks that each round places values, that rounds with unlawful closures find some and refuse none, and that the others refuse some.
 #[test]
 fn closures_that_lie_and_memory_refused_at_random(rt: HostRuntime) {
-    for (kind, each, first_capacity, seed) in OF_FOUR {
+    for row in &OF_FOUR {
+        let (kind, each, first_capacity, seed) = *row;
         let round = Round {
             kind,
             threads: 4,

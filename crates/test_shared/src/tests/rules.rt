@@ -75,9 +75,9 @@ fn assert_grants<A: Allocator + Copy>(rt: &impl Abort, alloc: A, requests: &[(us
 
 #[test]
 fn the_first_of_a_size_pass_and_the_next_are_refused(rt: HostRuntime) {
-    for (passing, refused, requests) in BY_NUMBER {
-        let heap = Refusing::new(rt.alloc(), Rule::new(8, 16, passing, refused));
-        assert_grants(&rt, &heap, requests);
+    for (passing, refused, requests) in &BY_NUMBER {
+        let heap = Refusing::new(rt.alloc(), Rule::new(8, 16, *passing, *refused));
+        assert_grants(&rt, &heap, *requests);
     }
 }
 
@@ -105,7 +105,8 @@ fn count_refused(heap: &Refusing<Global>, requests: u64) -> u64 {
 /// Checks that the number of requests refused at random is within its bounds, and that the others are granted.
 #[test]
 fn so_many_are_refused_by_lot(rt: HostRuntime) {
-    for (seed, one_in, least, most) in LOTS {
+    for row in &LOTS {
+        let (seed, one_in, least, most) = *row;
         let rule = Rule::new(8, 8, 0, u64::MAX).drawn(seed, one_in);
         let heap = Refusing::new(rt.alloc(), rule);
         let refused = count_refused(&heap, REQUESTS);
@@ -149,7 +150,8 @@ const ANSWERS: [(u64, u64, &[(usize, bool)]); 4] = [
 #[test]
 fn requests_are_refused_from_now_on(rt: HostRuntime) {
     let heap = Refusing::new(rt.alloc(), Rule::new(8, 8, 0, 0));
-    for (passing, refused, requests) in ANSWERS {
+    for row in &ANSWERS {
+        let (passing, refused, requests) = *row;
         heap.refuse(passing, refused);
         assert_same(&rt, heap.refusals_left(), refused);
         assert_grants(&rt, &heap, requests);

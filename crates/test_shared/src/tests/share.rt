@@ -143,10 +143,10 @@ fn assert_shared<A: Low + Copy>(
 
 #[test]
 fn a_shared_table_shows_and_hands_out_each_value_once(rt: HostRuntime) -> Result<(), Fail> {
-    for sizes in TABLES {
+    for sizes in &TABLES {
         for is_handed in [true, false] {
             let heap = Refusing::new(rt.alloc(), Rule::new(0, 0, 0, 0));
-            assert_shared(&rt, rt.alloc(), &heap, &heap, sizes, is_handed)?;
+            assert_shared(&rt, rt.alloc(), &heap, &heap, *sizes, is_handed)?;
         }
     }
     Ok(())

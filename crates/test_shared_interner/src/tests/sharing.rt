@@ -1,7 +1,7 @@
 //! Single-owner interners that are copied into shared ones.
 use super::caller::{assert_has, assert_none_out, assert_same, counted, texts_below};
 use interner::Interner as Texts;
-use shared_interner::{Shared, SharedInterner, Symbol};
+use shared_interner::{Names, Shared, SharedInterner, Symbol};
 use std::alloc::{AllocError, Global};
 use std::num::NonZeroU32;
 use std::process::Abort;
@@ -48,18 +48,29 @@ fn assert_copied<A: Low + Copy>(
     assert_has(rt, &interner, texts.as_slice(), symbols.as_slice());
     let mut names = interner.names();
     names.hear(&known);
+    assert_goes_on(rt, &mut names, texts.as_slice(), symbols.as_slice())
+}
+
+/// Asserts that a handle knows the last of the texts, and that a new text gets a new symbol. `Err`: no memory.
+fn assert_goes_on<A: Low + Copy>(
+    rt: &impl Abort,
+    names: &mut Names<'_, A>,
+    texts: &[String],
+    symbols: &[Symbol],
+) -> Result<(), AllocError> {
     if let (Some(text), Some(symbol)) = (texts.last(), symbols.last()) {
         assert_same(rt, names.get(text.as_str()), Some(*symbol));
     }
-    assert!(rt; count < names.intern("a new text")?.to_u32());
+    let new = names.intern("a new text")?;
+    assert!(rt; texts.len() < new.to_u32() as usize);
     Ok(())
 }
 
 #[test]
 fn texts_keep_their_numbers(rt: HostRuntime) -> Result<(), Fail> {
-    for count in COUNTS {
+    for count in &COUNTS {
         let heap = counted(rt.alloc());
-        assert_copied(&rt, rt.alloc(), &heap, count)?;
+        assert_copied(&rt, rt.alloc(), &heap, *count)?;
         assert_none_out(&rt, &heap);
     }
     Ok(())

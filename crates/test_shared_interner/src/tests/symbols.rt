@@ -32,18 +32,18 @@ const HASHES: [(u32, u64); 3] = [
 #[test]
 fn symbols_have_the_law_of_their_numbers(rt: HostRuntime) {
     let first = Symbol::from_u32(1).expect(&rt, "a symbol");
-    for (number, hash) in HASHES {
-        let symbol = Symbol::from_u32(number).expect(&rt, "a symbol");
-        assert_same(&rt, NumberLaw::hash(&symbol), hash);
-        assert_same(&rt, NumberLaw::is_same(&symbol, &first), number == 1);
+    for (number, hash) in &HASHES {
+        let symbol = Symbol::from_u32(*number).expect(&rt, "a symbol");
+        assert_same(&rt, NumberLaw::hash(&symbol), *hash);
+        assert_same(&rt, NumberLaw::is_same(&symbol, &first), *number == 1);
     }
 }
 
 /// Asserts that each call returns no text for the symbols of these numbers.
 fn assert_none(rt: &impl Abort, interner: &SharedInterner) {
     let mut names = interner.names();
-    for number in NONE {
-        let symbol = Symbol::from_u32(number).expect(rt, "a symbol");
+    for number in &NONE {
+        let symbol = Symbol::from_u32(*number).expect(rt, "a symbol");
         assert_same(rt, interner.text(symbol), None);
         assert_same(rt, names.text(symbol), None);
     }

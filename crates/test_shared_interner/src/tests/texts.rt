@@ -49,9 +49,9 @@ fn intern_each<A: Low + Copy>(
     names: &mut Names<'_, A>,
 ) -> Result<Vec<Symbol>, AllocError> {
     let mut symbols = Vec::with_capacity(alloc, TEXTS.len())?;
-    for text in TEXTS {
-        assert_same(rt, names.get(text), None);
-        symbols.push(names.intern(text)?)?;
+    for text in &TEXTS {
+        assert_same(rt, names.get(*text), None);
+        symbols.push(names.intern(*text)?)?;
     }
     Ok(symbols)
 }
@@ -94,9 +94,9 @@ fn shown<'s>(names: &mut Names<'s>, text: &str) -> Option<&'s str> {
 fn known_symbols_give_their_texts_back(rt: HostRuntime) -> Result<(), Fail> {
     let interner = SharedInterner::new(rt.alloc())?;
     let mut names = interner.names();
-    for text in TEXTS {
-        assert_same(&rt, shown(&mut names, text), Some(text));
-        assert_same(&rt, shown(&mut names, text), Some(text));
+    for text in &TEXTS {
+        assert_same(&rt, shown(&mut names, *text), Some(*text));
+        assert_same(&rt, shown(&mut names, *text), Some(*text));
     }
     Ok(())
 }

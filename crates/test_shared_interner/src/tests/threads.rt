@@ -88,13 +88,13 @@ fn assert_given_one<R: Threads + Abort + Sync, A: Low + Copy + Send + Sync>(
     memory: A,
 ) -> Result<(), AllocError> {
     let interner = interner_with(rt, memory, 0);
-    for text in GIVEN {
-        let (Given { symbol, known }, other) = intern_by_two(rt, &interner, text)?;
+    for text in &GIVEN {
+        let (Given { symbol, known }, other) = intern_by_two(rt, &interner, *text)?;
         assert_same(rt, other, symbol);
         let mut names = interner.names();
         names.hear(&known);
-        assert_same(rt, names.text(symbol), Some(text));
-        assert_named(rt, &interner, text, symbol);
+        assert_same(rt, names.text(symbol), Some(*text));
+        assert_named(rt, &interner, *text, symbol);
     }
     assert_same(rt, interner.len(), GIVEN.len() as u64);
     Ok(())

@@ -1,8 +1,10 @@
 //! Walks over the texts.
+ghost use Rattle.std.specs.Prelude.{◌≡◌};
+
 use super::caller::{
     assert_none_out, assert_same, counted, interner_with, symbols_of, texts_below,
 };
-use shared_interner::{SharedInterner, Symbol};
+use shared_interner::{KnownNames, SharedInterner, Symbol};
 use std::alloc::{AllocError, Global};
 use std::process::Abort;
 use std::test::Fail;
@@ -37,15 +39,31 @@ fn walked<'i, A: Low + Copy>(
     let mut walk = names.iter();
     while let Some((symbol, text)) = walk.next() {
         pairs.push((symbol, text))?;
-        let mut other = interner.names();
-        other.hear(&walk.tell());
-        assert_same(rt, other.get(text), Some(symbol));
-        if let Some(text) = more.next() {
-            other.intern(text.as_str())?;
-        }
+        assert_heard_beside(rt, interner, &walk.tell(), (symbol, text), more.next())?;
     }
     assert_same(rt, walk.next(), None);
     Ok(pairs)
+}
+
+/// Makes a handle that hears what a walk knows, and asserts that it knows the text that the walk is at. Interns one more text by it, if there is
+/// one. `Err`: no memory.
+fn assert_heard_beside<A: Low + Copy>(
+    rt: &impl Abort,
+    interner: &SharedInterner<A>,
+    known: &KnownNames<A>,
+    pair: (Symbol, &str),
+    more: Option<&String>,
+) -> Result<(), AllocError>
+    requires { known.now.of ≡ interner.now.of }
+{
+    let (symbol, text) = pair;
+    let mut other = interner.names();
+    other.hear(known);
+    assert_same(rt, other.get(text), Some(symbol));
+    if let Some(text) = more {
+        other.intern(text.as_str())?;
+    }
+    Ok(())
 }
 
 /// Asserts that each pair is a text with its symbol, that no pair comes twice, and that each of the first `known` texts comes.
@@ -90,10 +108,10 @@ fn assert_walk<A: Low + Copy>(
 /// Checks that a walk returns each text with its symbol, also while texts are interned and the interner grows.
 #[test]
 fn a_walk_gives_each_text_once(rt: HostRuntime) -> Result<(), Fail> {
-    for (count, known) in WALKS {
-        let texts = texts_below(rt.alloc(), count)?;
+    for (count, known) in &WALKS {
+        let texts = texts_below(rt.alloc(), *count)?;
         let heap = counted(rt.alloc());
-        assert_walk(&rt, rt.alloc(), &heap, texts.as_slice(), known)?;
+        assert_walk(&rt, rt.alloc(), &heap, texts.as_slice(), *known)?;
         assert_none_out(&rt, &heap);
     }
     Ok(())

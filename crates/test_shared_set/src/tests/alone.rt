@@ -59,9 +59,9 @@ fn assert_grows<A: Low + Copy>(rt: &impl Abort, heap: &Heap, memory: A, row: (us
 /// Checks that each number is found while the set grows, also by a handle that was made before the growth.
 #[test]
 fn each_number_is_found_over_growth(rt: HostRuntime) {
-    for row in SETS {
+    for row in &SETS {
         let heap = counted(rt.alloc());
-        assert_grows(&rt, &heap, &heap, row);
+        assert_grows(&rt, &heap, &heap, *row);
         assert_none_out(&rt, &heap);
     }
 }
@@ -163,9 +163,9 @@ fn assert_counted<A: Low + Copy>(rt: &impl Abort, memory: A, placed: u64, length
 
 #[test]
 fn a_first_value_is_counted_at_once(rt: HostRuntime) {
-    for (placed, length) in COUNTED {
+    for (placed, length) in &COUNTED {
         let heap = counted(rt.alloc());
-        assert_counted(&rt, &heap, placed, length);
+        assert_counted(&rt, &heap, *placed, *length);
         assert_none_out(&rt, &heap);
     }
 }

@@ -57,7 +57,8 @@ fn assert_known<A: Low + Copy>(
 ) -> Result<(), AllocError> {
     let mut set = set_with(rt, memory, 0);
     let mut from = 0;
-    for end in COUNTS {
+    for end in &COUNTS {
+        let end = *end;
         begin(rt, &mut set, from, end);
         assert_begins(rt, &set, end);
         assert_walked(rt, alloc, &set, end)?;

@@ -91,13 +91,13 @@ fn assert_dropped<A: Low + Copy>(
 
 #[test]
 fn each_value_is_dropped_once(rt: HostRuntime) -> Result<(), Fail> {
-    for row in SETS {
-        let (_, _, one_in, _) = row;
+    for row in &SETS {
+        let (_, _, one_in, _) = *row;
         let values = Drops::new(rt.alloc(), NUMBERS)?;
         let copies = Drops::new(rt.alloc(), NUMBERS)?;
         let rule = Rule::new(0, usize::MAX, 0, 0).drawn(7, one_in);
         let heap = Refusing::new(rt.alloc(), rule);
-        assert_dropped(&rt, &heap, &heap, row, &values, &copies)?;
+        assert_dropped(&rt, &heap, &heap, *row, &values, &copies)?;
         assert_none_out(&rt, &heap);
     }
     Ok(())

@@ -66,9 +66,9 @@ fn assert_ends<A: Low + Copy>(
 
 #[test]
 fn each_value_is_returned_once(rt: HostRuntime) -> Result<(), Fail> {
-    for count in COUNTS {
+    for count in &COUNTS {
         let heap = counted(rt.alloc());
-        assert_ends(&rt, rt.alloc(), &heap, &heap, count)?;
+        assert_ends(&rt, rt.alloc(), &heap, &heap, *count)?;
     }
     Ok(())
 }

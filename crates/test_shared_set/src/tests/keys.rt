@@ -58,8 +58,8 @@ fn texts_are_found_by_their_letters(rt: HostRuntime) -> Result<(), Fail> {
     insert_each(&rt, rt.alloc(), &mut set.handle(), InsertEnd::Placed)?;
     insert_each(&rt, rt.alloc(), &mut set.handle(), InsertEnd::Found)?;
     assert_same(&rt, set.len(), TEXTS);
-    for letters in OTHERS {
-        assert!(rt; !has(&mut set.handle(), letters));
+    for letters in &OTHERS {
+        assert!(rt; !has(&mut set.handle(), *letters));
     }
     Ok(())
 }

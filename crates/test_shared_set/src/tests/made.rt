@@ -127,7 +127,8 @@ fn assert_made_if_needed<A: Low + Copy>(rt: &impl Abort, heap: &Heap, memory: A)
     assert_same(rt, refused, (InsertEnd::Refused, None, true));
     place_all(rt, &mut handle);
     assert_has(rt, &mut handle, MANY);
-    for (key, value, answer, number, made) in CASES {
+    for row in &CASES {
+        let (key, value, answer, number, made) = *row;
         let got = get_or_insert(&mut handle, key, value);
         assert_same(rt, got, (answer, Some(number), made));
     }
@@ -179,7 +180,8 @@ const TRIES: [(u32, Option<u64>, u64, Result<(InsertEnd, Option<u64>), u32>); 8]
 fn assert_tries<A: Low + Copy>(rt: &impl Abort, heap: &Heap, memory: A) {
     let set = set_with(rt, memory, 0);
     let mut handle = set.handle();
-    for (key, value, refused, expected) in TRIES {
+    for row in &TRIES {
+        let (key, value, refused, expected) = *row;
         heap.refuse(0, refused);
         assert_same(rt, try_to_insert(&mut handle, key, value), expected);
     }

@@ -148,8 +148,8 @@ const RUNS: [Run; 12] = [
 
 #[test]
 fn each_request_refused_in_turn(rt: HostRuntime) {
-    for as_told in RUNS {
-        let turns = run_each(&rt, rt.alloc(), as_told);
+    for as_told in &RUNS {
+        let turns = run_each(&rt, rt.alloc(), *as_told);
         assert!(&rt; 10 < turns && turns < 200, "{turns} turns");
     }
 }
@@ -191,9 +191,9 @@ fn assert_grows_after_half<A: Low + Copy>(
 
 #[test]
 fn a_generation_grows_once_half_of_it_is_filled(rt: HostRuntime) {
-    for (room, half) in HALVES {
+    for (room, half) in &HALVES {
         let heap = without_growth(rt.alloc(), half.saturating_mul(2));
-        assert_grows_after_half(&rt, &heap, &heap, (room, half));
+        assert_grows_after_half(&rt, &heap, &heap, (*room, *half));
         assert_none_out(&rt, &heap);
     }
 }
@@ -219,9 +219,9 @@ fn assert_asks_now_and_then<A: Low + Copy>(
 
 #[test]
 fn a_refused_growth_is_asked_for_now_and_then(rt: HostRuntime) {
-    for (room, full) in FILLED {
+    for (room, full) in &FILLED {
         let heap = without_growth(rt.alloc(), room.saturating_mul(2));
-        assert_asks_now_and_then(&rt, &heap, &heap, (room, full));
+        assert_asks_now_and_then(&rt, &heap, &heap, (*room, *full));
         assert_none_out(&rt, &heap);
     }
 }
@@ -299,7 +299,7 @@ fn assert_too_many<A: Low + Copy>(
 #[test]
 fn too_many_entries_are_refused(rt: HostRuntime) {
     let heap = Refusing::new(rt.alloc(), Rule::new(1 << 30, usize::MAX, 0, u64::MAX));
-    for row in TOO_MANY {
-        assert_too_many(&rt, &heap, &heap, row);
+    for row in &TOO_MANY {
+        assert_too_many(&rt, &heap, &heap, *row);
     }
 }

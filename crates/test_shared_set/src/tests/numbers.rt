@@ -43,8 +43,8 @@ const NONE: [u64; 6] = [MANY + 200, MANY + 201, 1 << 20, 1 << 31, 1 << 32, u64::
 
 /// Asserts that a handle returns no entry for a number that no entry has.
 fn assert_no_other<A: Low + Copy>(rt: &impl Abort, handle: &mut NumberHandle<'_, A>) {
-    for number in NONE {
-        assert_same(rt, handle.entry(number), None);
+    for number in &NONE {
+        assert_same(rt, handle.entry(*number), None);
     }
 }
 

@@ -127,11 +127,11 @@ fn run_on<A: Low + Copy>(
 
 #[test]
 fn drawn_runs_answer_as_a_list(rt: HostRuntime) -> Result<(), Fail> {
-    for row in RUNS {
+    for row in &RUNS {
         for seed in 0u64..6 {
             let rule = Rule::new(0, usize::MAX, 0, 0).drawn(seed, 4);
             let heap = Refusing::new(rt.alloc(), rule);
-            run_on(&rt, rt.alloc(), &heap, &heap, row, seed)?;
+            run_on(&rt, rt.alloc(), &heap, &heap, *row, seed)?;
             assert_none_out(&rt, &heap);
         }
     }

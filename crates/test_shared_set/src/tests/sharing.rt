@@ -153,8 +153,8 @@ fn share(rt: &impl Abort, alloc: Global, count: u64, granted: u64) -> Result<boo
 
 #[test]
 fn each_value_is_an_entry(rt: HostRuntime) -> Result<(), Fail> {
-    for count in COUNTS {
-        assert!(rt; share(&rt, rt.alloc(), count, 1 << 32)?);
+    for count in &COUNTS {
+        assert!(rt; share(&rt, rt.alloc(), *count, 1 << 32)?);
     }
     Ok(())
 }

@@ -126,9 +126,9 @@ fn assert_fills<R: Threads + Wait + Abort + Sync>(rt: &R, alloc: Global, seed: u
 
 #[test]
 fn threads_insert_over_growth(rt: HostRuntime) {
-    for at in SETS {
+    for at in &SETS {
         for seed in 0u64..2 {
-            assert_fills(&rt, rt.alloc(), seed, at);
+            assert_fills(&rt, rt.alloc(), seed, *at);
         }
     }
 }

@@ -120,9 +120,9 @@ fn assert_walk<A: Low + Copy>(
 
 #[test]
 fn a_walk_returns_each_entry_once(rt: HostRuntime) -> Result<(), Fail> {
-    for (first, many) in WALKS {
+    for (first, many) in &WALKS {
         let heap = counted(rt.alloc());
-        assert_walk(&rt, rt.alloc(), &heap, first, many)?;
+        assert_walk(&rt, rt.alloc(), &heap, *first, *many)?;
         assert_none_out(&rt, &heap);
     }
     Ok(())

@@ -33,12 +33,8 @@ fn assert_named<A: Allocator + Copy>(
     text: &str,
     number: u32,
 ) {
-    match interner.number_alone(text) {
-        Some(found) => assert_eq!(rt; found.get(), number),
-        None => assert_eq!(rt; 0, number),
-    }
-    match text_of(interner, number) {
-        Some(found) => assert_eq!(rt; found, text),
-        None => assert_eq!(rt; 0, number),
-    }
+    let found = interner.number_alone(text).map_or(0, NonZeroU32::get);
+    assert_same(rt, found, number);
+    let named = if number == 0 { None } else { Some(text) };
+    assert_same(rt, text_of(interner, number), named);
 }

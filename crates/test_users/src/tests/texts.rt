@@ -169,9 +169,9 @@ fn assert_splits(
     wanted: (&[u8], &str, u8),
 ) -> Result<(), Fail> {
     let (output, messages, status) = wanted;
-    for threads in THREADS {
-        for piece in PIECES {
-            let ended = run(rt, rt.alloc(), files, (threads, piece), words, input)?;
+    for threads in &THREADS {
+        for piece in &PIECES {
+            let ended = run(rt, rt.alloc(), files, (*threads, *piece), words, input)?;
             assert_ended(rt, &ended, output, messages, status);
         }
     }

@@ -10,15 +10,31 @@ use std::marker::PhantomData;
 use std::rt::{Clock, Files};
 use std::time::Instant;
 
-/// A power of two. Its multiples collide under a hash whose low bits depend only on the low bits of a key.
-const STEP: u64 = 1 << 16;
+/// A row of keys. The first key is 0.
+#[derive(Clone, Copy)]
+struct Row {
+    /// The step from a key to the next one.
+    step: u64,
+    name: &'static str,
+    /// The names of the measurements of inserts and hits.
+    inserts: &'static str,
+    hits: &'static str,
+}
 
-/// The step from a key of a row to the next one, and the names of the measurements of inserts and hits. The first key is 0.
-type Row = (u64, &'static str, &'static str);
+const IN_ORDER: Row = Row {
+    step: 1,
+    name: "in order",
+    inserts: "seq_ins1",
+    hits: "seq_hit1",
+};
 
-const IN_ORDER: Row = (1, "seq_ins1", "seq_hit1");
-
-const IN_STEPS: Row = (STEP, "step_ins1", "step_hit1");
+/// Multiples of a power of two. They collide under a hash whose low bits depend only on the low bits of a key.
+const IN_STEPS: Row = Row {
+    step: 65_536,
+    name: "in steps of 65536",
+    inserts: "step_ins1",
+    hits: "step_hit1",
+};
 
 /// Runs a group of measurements of a single-owner set. `Err`: the group is unknown, or a measurement failed.
 pub fn measure_held<S: KeySet + Empty + Drop, R: Print + Eprint + Clock + Files + AllocGlobal>(
@@ -94,15 +110,15 @@ impl<'a, R: Print + Clock> Task for InRow<'a, R> {
 
     fn run<K: KeySet>(&self, set: &mut K) -> io::Result<()> {
         let (rt, report) = (self.rt, self.report);
-        let (step, inserts, hits) = self.row;
+        let row = self.row;
 
         let start = Instant::now(rt)?;
-        let placed = insert_row(set, step);
-        report.time(rt, inserts, start, placed, COUNT, COUNT)?;
+        let placed = insert_row(set, row.step);
+        report.time(rt, row.inserts, start, placed, COUNT, COUNT)?;
 
         let start = Instant::now(rt)?;
-        let found = count_row(set, step);
-        report.time(rt, hits, start, found, COUNT, COUNT)
+        let found = count_row(set, row.step);
+        report.time(rt, row.hits, start, found, COUNT, COUNT)
     }
 }
 
@@ -111,15 +127,23 @@ pub fn check_held<S: KeySet + Empty + Drop, R: Print + AllocGlobal>(
     rt: &R,
     name: &str,
 ) -> io::Result<()> {
-    let (placed, hits, found) = Once {}.run(&mut S::empty(rt.alloc())?);
+    check_spread(rt, name, &mut S::empty(rt.alloc())?)?;
+    check_row(rt, name, &mut S::empty(rt.alloc())?, IN_ORDER)?;
+    check_row(rt, name, &mut S::empty(rt.alloc())?, IN_STEPS)
+}
+
+/// Inserts spread keys into an empty set, and prints counts. `Err`: the output failed.
+fn check_spread<S: KeySet, R: Print>(rt: &R, name: &str, set: &mut S) -> io::Result<()> {
+    let (placed, hits, found) = Once {}.run(set);
     let misses = COUNT.saturating_sub(found);
-    println!(rt; "{name} spread: {placed} placed, {hits} hits, {misses} misses")?;
+    println!(rt; "{name} spread: {placed} placed, {hits} hits, {misses} misses")
+}
 
-    let (placed, hits) = count_in_row(&mut S::empty(rt.alloc())?, 1);
-    println!(rt; "{name} in order: {placed} placed, {hits} hits")?;
-
-    let (placed, hits) = count_in_row(&mut S::empty(rt.alloc())?, STEP);
-    println!(rt; "{name} in steps of {STEP}: {placed} placed, {hits} hits")
+/// Inserts a row of keys into an empty set, and prints counts. `Err`: the output failed.
+fn check_row<S: KeySet, R: Print>(rt: &R, name: &str, set: &mut S, row: Row) -> io::Result<()> {
+    let placed = insert_row(set, row.step);
+    let hits = count_row(set, row.step);
+    println!(rt; "{name} {}: {placed} placed, {hits} hits", row.name)
 }
 
 /// The task that inserts the spread keys into an empty set. The answer is how many were placed, how many are entries then, and how many
@@ -145,12 +169,6 @@ pub(crate) fn insert_spread<S: KeySet>(set: &mut S, from: u64, count: u64) -> u6
         placed = placed.wrapping_add(u64::from(set.insert(key)));
     }
     placed
-}
-
-/// Inserts a row of keys into an empty set. Returns how many were placed, and how many are entries then.
-fn count_in_row<S: KeySet>(set: &mut S, step: u64) -> (u64, u64) {
-    let placed = insert_row(set, step);
-    (placed, count_row(set, step))
 }
 
 /// Inserts the keys 0, 1, 2, .. times the step. Returns how many were placed.

@@ -132,19 +132,38 @@ fn measure_names<R: Print + Clock + Files + Threads + Sync + AllocGlobal>(
 ) -> io::Result<()> {
     let mut lists = Lists::of_names(rt.alloc())?;
     let set = SharedInterner::new(rt.alloc())?;
+    measure_new(rt, report, &set, &lists, threads)?;
+    lists.symbols = list_symbols(rt.alloc(), &set, lists.turned.as_slice())?;
+    measure_known(rt, report, &set, &lists, threads)
+}
+
+/// Measures interning new names, and bytes per entry without its text. `Err`: a wrong count or an I/O error.
+fn measure_new<R: Print + Clock + Files + Threads + Sync + AllocGlobal>(
+    rt: &R,
+    report: &Report<'_>,
+    set: &SharedInterner,
+    lists: &Lists,
+    threads: u64,
+) -> io::Result<()> {
     let before = resident_bytes(rt)?.saturating_add(TEXT_BYTES);
-    time_job(rt, report, &set, &lists, Job::New, threads)?;
+    time_job(rt, report, set, lists, Job::New, threads)?;
     expect(set.len(), COUNT)?;
     let name = format!(in rt.alloc(); "t_rss{threads}")?;
-    print_bytes(rt, report, name.as_str(), before, COUNT)?;
+    print_bytes(rt, report, name.as_str(), before, COUNT)
+}
 
-    lists.symbols = list_symbols(rt.alloc(), &set, lists.turned.as_slice())?;
-    expect(
-        count_job(rt, rt.alloc(), &set, &lists, Job::Back, 1)?,
-        COUNT,
-    )?;
-    time_job(rt, report, &set, &lists, Job::Known, threads)?;
-    time_job(rt, report, &set, &lists, Job::Back, threads)
+/// Checks all symbols once, and then measures interning known names and checking the texts of symbols. `Err`: a wrong count or an I/O error.
+fn measure_known<R: Print + Clock + Threads + Sync + AllocGlobal>(
+    rt: &R,
+    report: &Report<'_>,
+    set: &SharedInterner,
+    lists: &Lists,
+    threads: u64,
+) -> io::Result<()> {
+    let back = count_job(rt, rt.alloc(), set, lists, Job::Back, 1)?;
+    expect(back, COUNT)?;
+    time_job(rt, report, set, lists, Job::Known, threads)?;
+    time_job(rt, report, set, lists, Job::Back, threads)
 }
 
 /// Measures words with this number of threads, in a new interner. `Err`: a wrong count or an I/O error.
@@ -310,27 +329,48 @@ fn list_symbols(
 
 /// Does each job once by four threads, without a clock, and prints counts. `Err`: memory was refused, or the output failed.
 pub fn check_texts<R: Print + Threads + Sync + AllocGlobal>(rt: &R, name: &str) -> io::Result<()> {
-    let alloc = rt.alloc();
-    let mut lists = Lists::of_names(alloc)?;
-    let set = SharedInterner::new(alloc)?;
-    let named = count_job(rt, alloc, &set, &lists, Job::New, MOST)?;
+    check_names(rt, name)?;
+    check_words(rt, name)
+}
+
+/// Interns new names, interns them again, and checks the texts of their symbols. `Err`: memory was refused, or the output failed.
+fn check_names<R: Print + Threads + Sync + AllocGlobal>(rt: &R, name: &str) -> io::Result<()> {
+    let mut lists = Lists::of_names(rt.alloc())?;
+    let set = SharedInterner::new(rt.alloc())?;
+    check_new(rt, name, &set, &lists)?;
+    lists.symbols = list_symbols(rt.alloc(), &set, lists.turned.as_slice())?;
+    check_known(rt, name, &set, &lists)
+}
+
+/// Interns new names, and prints how many got a symbol. `Err`: memory was refused, or the output failed.
+fn check_new<R: Print + Threads + Sync + AllocGlobal>(
+    rt: &R,
+    name: &str,
+    set: &SharedInterner,
+    lists: &Lists,
+) -> io::Result<()> {
+    let named = count_job(rt, rt.alloc(), set, lists, Job::New, MOST)?;
     let count = set.len();
-    println!(rt; "{name} by four: {named} named, {count} texts")?;
+    println!(rt; "{name} by four: {named} named, {count} texts")
+}
 
-    lists.symbols = list_symbols(alloc, &set, lists.turned.as_slice())?;
-    let known = count_job(rt, alloc, &set, &lists, Job::Known, MOST)?;
-    let back = count_job(rt, alloc, &set, &lists, Job::Back, MOST)?;
-    println!(rt; "{name} by four: {known} known, {back} back")?;
+/// Interns known names, and checks the texts of their symbols. `Err`: memory was refused, or the output failed.
+fn check_known<R: Print + Threads + Sync + AllocGlobal>(
+    rt: &R,
+    name: &str,
+    set: &SharedInterner,
+    lists: &Lists,
+) -> io::Result<()> {
+    let known = count_job(rt, rt.alloc(), set, lists, Job::Known, MOST)?;
+    let back = count_job(rt, rt.alloc(), set, lists, Job::Back, MOST)?;
+    println!(rt; "{name} by four: {known} known, {back} back")
+}
 
-    let words = SharedInterner::new(alloc)?;
-    let named = count_job(
-        rt,
-        alloc,
-        &words,
-        &Lists::of_words(alloc)?,
-        Job::Words,
-        MOST,
-    )?;
-    let count = words.len();
+/// Interns words that come again and again, in a new interner. `Err`: memory was refused, or the output failed.
+fn check_words<R: Print + Threads + Sync + AllocGlobal>(rt: &R, name: &str) -> io::Result<()> {
+    let lists = Lists::of_words(rt.alloc())?;
+    let set = SharedInterner::new(rt.alloc())?;
+    let named = count_job(rt, rt.alloc(), &set, &lists, Job::Words, MOST)?;
+    let count = set.len();
     println!(rt; "{name} by four: {named} words named, {count} texts")
 }

@@ -1,6 +1,7 @@
 //! Measurements of the machine of all schedules: many calls, one after another.
 
 use crate::measures::report::{Report, refuse_words};
+use std::alloc::Global;
 use std::io;
 use std::rt::Clock;
 use std::time::Instant;
@@ -14,13 +15,21 @@ pub fn measure_schedules<R: Print + Eprint + Clock + AllocGlobal>(
     report: &Report<'_>,
     group: &str,
 ) -> io::Result<()> {
-    if group != "one" {
-        return refuse_words(rt);
+    match group {
+        "one" => time_events(rt, report, load_events(rt.alloc(), Hashes::Own)?.as_slice()),
+        _ => refuse_words(rt),
     }
-    let events = load_events(rt.alloc(), Hashes::Own)?;
+}
+
+/// Measures the time per event of these. `Err`: a wrong count or an I/O error.
+fn time_events<R: Print + Clock + AllocGlobal>(
+    rt: &R,
+    report: &Report<'_>,
+    events: &[Event],
+) -> io::Result<()> {
     let mut state = State::new(rt.alloc());
     let start = Instant::now(rt)?;
-    let replies = take_all(&mut state, events.as_slice())?;
+    let replies = take_all(&mut state, events)?;
     let operations = events.len() as u64;
     report.time(rt, "event", start, replies, INSERTS + LOOKUPS, operations)
 }
@@ -28,11 +37,16 @@ pub fn measure_schedules<R: Print + Eprint + Clock + AllocGlobal>(
 /// Runs the schedule once, without a clock, and prints counts. `Err`: memory was refused, or the output failed.
 pub fn check_schedules<R: Print + AllocGlobal>(rt: &R) -> io::Result<()> {
     let events = load_events(rt.alloc(), Hashes::Own)?;
-    let mut state = State::new(rt.alloc());
-    let replies = take_all(&mut state, events.as_slice())?;
+    let (replies, buckets) = counts_of(rt.alloc(), events.as_slice())?;
     let taken = events.len();
-    let buckets = state.buckets();
     println!(rt; "core: {taken} events, {replies} replies, {buckets} buckets")
+}
+
+/// Runs these events. Returns how many calls they finish, and how many buckets there are then. `Err`: memory was refused.
+fn counts_of(alloc: Global, events: &[Event]) -> io::Result<(u64, u64)> {
+    let mut state = State::new(alloc);
+    let replies = take_all(&mut state, events)?;
+    Ok((replies, state.buckets()))
 }
 
 /// Runs these events. Returns how many calls they finish. `Err`: memory was refused.

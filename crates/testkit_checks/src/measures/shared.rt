@@ -97,11 +97,7 @@ pub fn measure_shared<
     R: Print + Eprint + Clock + Files + Threads + Wait + Sync + AllocGlobal,
 >(rt: &R, report: &Report<'_>, group: &str, threads: Option<&str>) -> io::Result<()> {
     match (group, threads) {
-        ("one", None) => {
-            let set = S::empty(rt.alloc())?;
-            set.by_thread(rt, &Spread { rt, report })?;
-            time_work(rt, report, &set, Work::Hits, MOST)
-        }
+        ("one", None) => measure_one(rt, report, &S::empty(rt.alloc())?),
         ("same", _) => measure_work::<R, S>(rt, report, Work::Same, threads),
         ("ins", _) => measure_work::<R, S>(rt, report, Work::Inserts, threads),
         ("hit", _) => measure_work::<R, S>(rt, report, Work::Hits, threads),
@@ -114,6 +110,15 @@ pub fn measure_shared<
         }
         _ => refuse_words(rt),
     }
+}
+
+/// Measures spread keys in an empty set by one thread, and then hits by four. `Err`: a wrong count or an I/O error.
+fn measure_one<
+    R: Print + Clock + Files + Threads + Wait + Sync + AllocGlobal,
+    S: SharedKeys + Sync,
+>(rt: &R, report: &Report<'_>, set: &S) -> io::Result<()> {
+    set.by_thread(rt, &Spread { rt, report })?;
+    time_work(rt, report, set, Work::Hits, MOST)
 }
 
 /// Measures the work with `threads` threads or with one to four in turn, each in a new set. `Err`: a wrong word or count, or an I/O error.
@@ -218,14 +223,29 @@ pub fn check_shared<
     S: SharedKeys + Empty + Sync + Drop,
     R: Print + Threads + Wait + Sync + AllocGlobal,
 >(rt: &R, name: &str) -> io::Result<()> {
-    let set = S::empty(rt.alloc())?;
+    check_hits(rt, name, &S::empty(rt.alloc())?)?;
+    check_same(rt, name, &S::empty(rt.alloc())?)
+}
+
+/// Lets one thread insert spread keys into an empty set, and then four look them up. `Err`: refused memory or an I/O error.
+fn check_hits<S: SharedKeys + Sync, R: Print + Threads + Wait + Sync + AllocGlobal>(
+    rt: &R,
+    name: &str,
+    set: &S,
+) -> io::Result<()> {
     let (placed, hits, found) = set.by_thread(rt, &Once {});
     println!(rt; "{name} spread: {placed} placed, {hits} hits, {found} of the absent found")?;
+    let hits = count_work(rt, rt.alloc(), set, Work::Hits, MOST)?;
+    println!(rt; "{name} by four: {hits} hits")
+}
 
-    let hits = count_work(rt, rt.alloc(), &set, Work::Hits, MOST)?;
-    println!(rt; "{name} by four: {hits} hits")?;
-
-    let placed = count_work(rt, rt.alloc(), &S::empty(rt.alloc())?, Work::Same, MOST)?;
+/// Lets four threads insert the same keys into an empty set. `Err`: refused memory or an I/O error.
+fn check_same<S: SharedKeys + Sync, R: Print + Threads + Wait + Sync + AllocGlobal>(
+    rt: &R,
+    name: &str,
+    set: &S,
+) -> io::Result<()> {
+    let placed = count_work(rt, rt.alloc(), set, Work::Same, MOST)?;
     println!(rt; "{name} by four: {placed} placed")
 }
 

@@ -41,21 +41,42 @@ fn measure_texts<R: Print + Clock + AllocGlobal>(
     report: &Report<'_>,
     size: &Size,
 ) -> io::Result<()> {
-    let (count, rounds, [new, known, back]) = *size;
+    let (count, _, _) = *size;
     let texts = texts_of(rt.alloc(), "name", u64::from(count))?;
-
-    let start = Instant::now(rt)?;
-    let given = count_new(rt.alloc(), texts.as_slice(), rounds);
-    report.time(rt, new, start, given, CALLS, CALLS)?;
-
+    time_new(rt, report, size, texts.as_slice())?;
     let mut interner = Interner::new(rt.alloc());
     intern_all(&mut interner, texts.as_slice());
+    time_known(rt, report, size, texts.as_slice(), &mut interner)
+}
+
+/// Measures interning these new texts, each round in a new interner. `Err`: a wrong count or an I/O error.
+fn time_new<R: Print + Clock + AllocGlobal>(
+    rt: &R,
+    report: &Report<'_>,
+    size: &Size,
+    texts: &[String],
+) -> io::Result<()> {
+    let (_, rounds, [new, _, _]) = *size;
     let start = Instant::now(rt)?;
-    let found = count_known(&mut interner, texts.as_slice(), rounds);
+    let given = count_new(rt.alloc(), texts, rounds);
+    report.time(rt, new, start, given, CALLS, CALLS)
+}
+
+/// Measures interning these known texts, and reading them. `Err`: a wrong count or an I/O error.
+fn time_known<R: Print + Clock>(
+    rt: &R,
+    report: &Report<'_>,
+    size: &Size,
+    texts: &[String],
+    interner: &mut Interner<Global>,
+) -> io::Result<()> {
+    let (count, rounds, [_, known, back]) = *size;
+    let start = Instant::now(rt)?;
+    let found = count_known(interner, texts, rounds);
     report.time(rt, known, start, found, CALLS, CALLS)?;
 
     let start = Instant::now(rt)?;
-    let shown = count_back(&interner, count, rounds);
+    let shown = count_back(interner, count, rounds);
     report.time(rt, back, start, shown, CALLS, CALLS)
 }
 

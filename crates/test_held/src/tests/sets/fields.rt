@@ -92,14 +92,18 @@ fn hashes_of_nodes(rt: HostRuntime) {
     assert!(rt; NodeLaw::is_met(&shape, &node) && !NodeLaw::is_met(&('+', 1, 1), &node));
 }
 
+/// Makes a word in a box. `Err`: no memory.
+fn boxed_word(alloc: Global, text: &str, line: u32) -> Result<Box<Word>, AllocError> {
+    let text = String::from_str(alloc, text)?;
+    Ok(Box::new(alloc, Word { text, line })?)
+}
+
 /// Checks that a look-up by a `&str` finds a struct with that text.
 #[test]
 fn words_by_their_texts(rt: HostRuntime) -> Result<(), Fail> {
-    let alloc = rt.alloc();
-    let mut words: HeldSet<Box<Word>, OfField<TextLaw>> = HeldSet::new(alloc);
+    let mut words: HeldSet<Box<Word>, OfField<TextLaw>> = HeldSet::new(rt.alloc());
     for (text, line) in [("ab", 1), ("ba", 2), ("ab", 3)] {
-        let text = String::from_str(alloc, text)?;
-        words.insert(Box::new(alloc, Word { text, line })?);
+        words.insert(boxed_word(rt.alloc(), text, line)?);
     }
     assert_same(&rt, words.len() as u64, 2);
     assert!(rt; matches!(words.get_by_key(&"ab"), Some(word) if word.line == 1));
@@ -137,19 +141,32 @@ fn characters(rt: HostRuntime) {
     assert!(rt; NumberLaw::is_same(&'a', &'a') && !NumberLaw::is_same(&'a', &'b'));
 }
 
+/// A set of boxed pairs of a text and a number.
+type Pairs = HeldSet<Box<(String, u32)>, PairsOf<TextLaw, NumberLaw>>;
+
+/// Makes a set of the pairs of this text and these numbers. `Err`: no memory.
+fn pairs_of(alloc: Global, text: &str, numbers: &[u32]) -> Result<Pairs, AllocError> {
+    let mut set: Pairs = HeldSet::new(alloc);
+    for number in numbers {
+        let text = String::from_str(alloc, text)?;
+        set.insert(Box::new(alloc, (text, *number))?);
+    }
+    Ok(set)
+}
+
+/// Returns the number of the pair that a look-up by this pair finds.
+fn number_of(set: &Pairs, pair: (&str, u32)) -> Option<u32> {
+    let found = set.get_by_key(&pair)?;
+    Some(found.1)
+}
+
 /// Checks that a look-up by a `&str` and a number finds the pair of that text and number.
 #[test]
 fn pairs_by_keys(rt: HostRuntime) -> Result<(), Fail> {
-    let alloc = rt.alloc();
-    let mut set: HeldSet<Box<(String, u32)>, PairsOf<TextLaw, NumberLaw>> = HeldSet::new(alloc);
-    for number in [7, 8] {
-        let text = String::from_str(alloc, "ab")?;
-        set.insert(Box::new(alloc, (text, number))?);
-    }
-    for number in [7, 8] {
-        assert!(rt; matches!(set.get_by_key(&("ab", number)), Some(pair) if pair.1 == number));
-    }
-    assert!(rt; set.get_by_key(&("ab", 9)).is_none());
-    assert!(rt; set.get_by_key(&("ba", 7)).is_none());
+    let set = pairs_of(rt.alloc(), "ab", &[7, 8])?;
+    assert_same(&rt, number_of(&set, ("ab", 7)), Some(7));
+    assert_same(&rt, number_of(&set, ("ab", 8)), Some(8));
+    assert_same(&rt, number_of(&set, ("ab", 9)), None);
+    assert_same(&rt, number_of(&set, ("ba", 7)), None);
     Ok(())
 }

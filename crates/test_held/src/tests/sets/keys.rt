@@ -17,8 +17,8 @@ const TEXTS: [&str; 6] = ["", "a", "b", "ab", "ba", "aa"];
 #[test]
 fn pairs_by_both_parts(rt: HostRuntime) {
     let mut set: Pairs = HeldSet::new(rt.alloc());
-    for pair in PAIRS {
-        assert_placed_once(&rt, &mut set, InPlace(pair), InPlace(pair));
+    for pair in &PAIRS {
+        assert_placed_once(&rt, &mut set, InPlace(*pair), InPlace(*pair));
     }
     assert_same(&rt, set.len() as u64, 5);
     assert!(rt; set.get(&(2, 1)).copied() == Some((2, 1)));
@@ -36,13 +36,14 @@ fn assert_text<A: Allocator + Copy>(rt: &impl Abort, set: &Texts<A>, text: &str)
 #[test]
 fn texts_by_their_bytes(rt: HostRuntime) -> Result<(), Fail> {
     let mut set: Texts<Global> = HeldSet::new(rt.alloc());
-    for text in TEXTS {
+    for text in &TEXTS {
+        let text = *text;
         let (first, again) = (boxed_text(rt.alloc(), text)?, boxed_text(rt.alloc(), text)?);
         assert_placed_once(&rt, &mut set, first, again);
     }
     assert_same(&rt, set.len() as u64, 6);
-    for text in TEXTS {
-        assert_text(&rt, &set, text);
+    for text in &TEXTS {
+        assert_text(&rt, &set, *text);
     }
     assert!(rt; set.get_by_key(&"bb").is_none());
     let known = String::from_str(rt.alloc(), "ba")?;

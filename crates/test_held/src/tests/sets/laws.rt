@@ -37,8 +37,8 @@ fn hashes_of_pairs(rt: HostRuntime) {
 
 #[test]
 fn numbers(rt: HostRuntime) {
-    for (number, hash) in NUMBERS {
-        assert_same(&rt, NumberLaw::hash(&number), hash);
+    for (number, hash) in &NUMBERS {
+        assert_same(&rt, NumberLaw::hash(number), *hash);
     }
     assert_same(&rt, NumberLaw::hash(&1u32), 0x7980_1DCC_73DB_173E);
     assert!(rt; NumberLaw::is_same(&3u64, &3u64) && !NumberLaw::is_same(&3u64, &4u64));

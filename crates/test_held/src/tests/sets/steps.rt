@@ -27,8 +27,8 @@ fn fill_held(alloc: Global, step: u64) -> (u64, u64) {
 
 #[test]
 fn held(rt: HostRuntime) {
-    for step in STEPS {
-        assert_same(&rt, fill_held(rt.alloc(), step), (COUNT, COUNT));
+    for step in &STEPS {
+        assert_same(&rt, fill_held(rt.alloc(), *step), (COUNT, COUNT));
     }
 }
 
@@ -61,16 +61,16 @@ fn most_of_a_bucket(alloc: Global, step: u64, place: u32) -> Result<u8, AllocErr
 
 /// Asserts that at each of `PLACES` at most `MOST` multiples of the step choose one bucket. `Err`: no memory.
 fn assert_spread(rt: &impl Abort, alloc: Global, step: u64) -> Result<(), AllocError> {
-    for place in PLACES {
-        assert!(rt; most_of_a_bucket(alloc, step, place)? <= MOST);
+    for place in &PLACES {
+        assert!(rt; most_of_a_bucket(alloc, step, *place)? <= MOST);
     }
     Ok(())
 }
 
 #[test]
 fn hashes_of_steps_spread(rt: HostRuntime) -> Result<(), Fail> {
-    for step in STEPS {
-        assert_spread(&rt, rt.alloc(), step)?;
+    for step in &STEPS {
+        assert_spread(&rt, rt.alloc(), *step)?;
     }
     Ok(())
 }

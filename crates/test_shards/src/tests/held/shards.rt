@@ -24,7 +24,7 @@ fn assert_shards(rt: &impl Abort, hash: u64, expected: [usize; 4]) {
 
 #[test]
 fn a_shard_is_the_top_bits_of_the_hash(rt: HostRuntime) {
-    for (hash, expected) in SHARDS_OF {
-        assert_shards(&rt, hash, expected);
+    for (hash, expected) in &SHARDS_OF {
+        assert_shards(&rt, *hash, *expected);
     }
 }

@@ -94,9 +94,9 @@ fn show_careless(table: &mut Numbers<2, Global>, hash_of: u64, value: Box<u64>) 
 #[test]
 fn shows_an_entry_of_its_own_shard(rt: HostRuntime) -> Result<(), Fail> {
     let mut table: Numbers<2, Global> = two_shards(rt.alloc());
-    for (hash_of, number, expected) in CARELESS {
-        let shown = show_careless(&mut table, hash_of, Box::new(rt.alloc(), number)?);
-        assert_same(&rt, shown, expected);
+    for (hash_of, number, expected) in &CARELESS {
+        let shown = show_careless(&mut table, *hash_of, Box::new(rt.alloc(), *number)?);
+        assert_same(&rt, shown, *expected);
     }
     assert!(rt; table.len_alone() == 2);
     Ok(())

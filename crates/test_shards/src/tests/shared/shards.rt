@@ -111,8 +111,8 @@ fn assert_lies_in<R: Abort + Wait>(
 #[test]
 fn an_entry_is_in_the_shard_of_its_hash_alone(rt: HostRuntime) -> Result<(), Fail> {
     for shard in 0..SHARDS {
-        for end in ENDS {
-            assert_lies_in(&rt, rt.alloc(), shard, end)?;
+        for end in &ENDS {
+            assert_lies_in(&rt, rt.alloc(), shard, *end)?;
         }
     }
     Ok(())

@@ -48,8 +48,8 @@ fn assert_taken<R: Wait + Abort>(rt: &R, alloc: Global, taken: u64) -> Result<()
 
 #[test]
 fn an_iterator_that_ends_early_drops_the_rest(rt: HostRuntime) -> Result<(), Fail> {
-    for taken in TAKEN {
-        assert_taken(&rt, rt.alloc(), taken)?;
+    for taken in &TAKEN {
+        assert_taken(&rt, rt.alloc(), *taken)?;
     }
     Ok(())
 }

@@ -66,10 +66,10 @@ const ARGUMENTS: [&[&str]; 4] = [
 /// Checks that any number of threads prints what one thread prints.
 #[test]
 fn threads_answer_lines_in_order(rt: HostRuntime) {
-    for words in ARGUMENTS {
-        for (input, output, messages, status) in ROWS {
-            let ended = run(&rt, rt.alloc(), words, input);
-            assert_ended(&rt, &ended, output.as_bytes(), messages, status);
+    for words in &ARGUMENTS {
+        for (input, output, messages, status) in &ROWS {
+            let ended = run(&rt, rt.alloc(), *words, *input);
+            assert_ended(&rt, &ended, output.as_bytes(), *messages, *status);
         }
     }
 }
@@ -85,19 +85,21 @@ fn more_than_one_batch(rt: HostRuntime) -> Result<(), Fail> {
     Ok(())
 }
 
+/// Wrong arguments.
+const WRONG: [&[&str]; 6] = [
+    &["--threads"],
+    &["--threads", "0"],
+    &["--threads", "65"],
+    &["--threads", "2", "2"],
+    &["--thread", "2"],
+    &["2"],
+];
+
 /// Checks that wrong arguments print the usage and no answer.
 #[test]
 fn wrong_words(rt: HostRuntime) {
-    let wrong: [&[&str]; 6] = [
-        &["--threads"],
-        &["--threads", "0"],
-        &["--threads", "65"],
-        &["--threads", "2", "2"],
-        &["--thread", "2"],
-        &["2"],
-    ];
-    for words in wrong {
-        let ended = run(&rt, rt.alloc(), words, "1\n");
+    for words in &WRONG {
+        let ended = run(&rt, rt.alloc(), *words, "1\n");
         assert_ended(&rt, &ended, b"", "usage: tool_memo [--threads N]\n", 2);
     }
 }

@@ -34,8 +34,8 @@ const LISTS: [(u64, u64); 3] = [(0, 1000), (500, 1500), (1000, 2000)];
 /// Returns the lists. `Err`: no memory.
 fn lists(alloc: Global) -> Result<Vec<Vec<u64>>, AllocError> {
     let mut all = Vec::new(alloc);
-    for (from, end) in LISTS {
-        all.push((from..end).collect(alloc)?)?;
+    for (from, end) in &LISTS {
+        all.push((*from..*end).collect(alloc)?)?;
     }
     Ok(all)
 }

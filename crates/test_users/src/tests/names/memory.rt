@@ -72,20 +72,28 @@ fn each_request_is_refused_in_turn(rt: HostRuntime) -> Result<(), Fail> {
     Ok(())
 }
 
+/// Interns all texts until one is refused, and asserts the number of each. Returns whether none was refused.
+fn interns_each<A: Allocator + Copy>(rt: &impl Abort, interner: &mut Interner<A>) -> bool {
+    for (place, text) in TEXTS.iter().enumerate() {
+        let number = intern(rt, interner, text);
+        if number == 0 {
+            return false;
+        }
+        assert_same(rt, number, place as u32 + 1);
+    }
+    true
+}
+
 /// Interns all texts by an interner over this memory. Returns whether all were interned. If they were, asserts that calls on known texts
 /// make no request. The heap refuses requests of the memory.
 fn is_known_over<A: Allocator + Copy>(rt: &impl Abort, heap: &Refusing<Global>, memory: A) -> bool {
     let mut interner = Interner::new(memory);
-    for text in TEXTS {
-        if intern(rt, &mut interner, text) == 0 {
-            return false;
-        }
+    if !interns_each(rt, &mut interner) {
+        return false;
     }
     assert!(rt; heap.granted() != 0);
     let left = heap.refusals_left();
-    for (place, text) in TEXTS.iter().enumerate() {
-        assert_same(rt, intern(rt, &mut interner, text), place as u32 + 1);
-    }
+    assert!(rt; interns_each(rt, &mut interner));
     assert_knows(rt, &interner, TEXTS.len() as u32);
     assert_knows(rt, &Interner::new(memory), 0);
     assert_same(rt, heap.refusals_left(), left);

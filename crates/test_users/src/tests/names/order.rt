@@ -19,8 +19,8 @@ const ORDER: [(usize, usize); 3] = [(100, 1000), (LONG, LONG), (1, 64)];
 /// Makes an interner on this memory, and interns the first texts.
 fn interner_of_first<A: Allocator + Copy>(rt: &impl Abort, memory: A) -> Interner<A> {
     let mut interner = Interner::new(memory);
-    for text in FIRST {
-        assert!(rt; interner.intern_alone(text).is_ok());
+    for text in &FIRST {
+        assert!(rt; interner.intern_alone(*text).is_ok());
     }
     interner
 }
@@ -60,6 +60,20 @@ fn room_then_the_text_then_the_table(rt: HostRuntime) -> Result<(), Fail> {
     Ok(())
 }
 
+/// Asserts that no number up to the greatest is left for a new text, and that a known one has its number.
+fn assert_none_left<A: Allocator + Copy>(
+    rt: &impl Abort,
+    interner: &mut Interner<A>,
+    greatest: u32,
+) {
+    assert!(rt; interner.intern_up_to("five", greatest) == Err(Refused::Numbers));
+    assert!(rt;
+        interner
+            .intern_up_to("four", greatest)
+            .is_ok_and(|number| number.get() == 4)
+    );
+}
+
 /// Asserts that a new text for which no number is left makes no request for memory and changes nothing. The heap counts the requests of the
 /// memory.
 fn assert_no_request<A: Allocator + Copy>(rt: &impl Abort, heap: &Refusing<Global>, memory: A) {
@@ -68,18 +82,18 @@ fn assert_no_request<A: Allocator + Copy>(rt: &impl Abort, heap: &Refusing<Globa
     assert!(rt; granted != 0);
     heap.refuse(0, u64::MAX);
     for greatest in [0, 1, 4] {
-        assert!(rt; interner.intern_up_to("five", greatest) == Err(Refused::Numbers));
-        assert!(rt;
-            interner
-                .intern_up_to("four", greatest)
-                .is_ok_and(|number| number.get() == 4)
-        );
+        assert_none_left(rt, &mut interner, greatest);
     }
     assert_same(rt, heap.granted(), granted);
     assert_same(rt, heap.refusals_left(), u64::MAX);
     assert_same(rt, interner.len_alone(), FIRST.len());
     assert_same(rt, text_of(&interner, 5), None);
     heap.refuse(0, 0);
+    assert_one_left(rt, &mut interner);
+}
+
+/// Asserts that number 5 is left, and no further one.
+fn assert_one_left<A: Allocator + Copy>(rt: &impl Abort, interner: &mut Interner<A>) {
     assert!(rt;
         interner
             .intern_up_to("five", 5)

@@ -53,9 +53,9 @@ const RUNS: [Row; 13] = [
 
 #[test]
 fn files_are_read_in_their_order(rt: HostRuntime) -> Result<(), Fail> {
-    for (words, written, said, status) in RUNS {
-        let wanted = (written.as_bytes(), said, status);
-        assert_splits(&rt, &SHELF, words, b"b d\n", wanted)?;
+    for (words, written, said, status) in &RUNS {
+        let wanted = (written.as_bytes(), *said, *status);
+        assert_splits(&rt, &SHELF, *words, b"b d\n", wanted)?;
     }
     Ok(())
 }
@@ -88,10 +88,10 @@ const ARGUMENTS: [Row; 17] = [
 
 #[test]
 fn arguments_ask_for_help_or_a_number_of_threads(rt: HostRuntime) -> Result<(), Fail> {
-    for (words, written, said, status) in ARGUMENTS {
+    for (words, written, said, status) in &ARGUMENTS {
         let input = b"b d\n".as_slice();
-        let ended = run(&rt, rt.alloc(), &SHELF, ALONE, words, input)?;
-        assert_ended(&rt, &ended, written.as_bytes(), said, status);
+        let ended = run(&rt, rt.alloc(), &SHELF, ALONE, *words, input)?;
+        assert_ended(&rt, &ended, written.as_bytes(), *said, *status);
     }
     Ok(())
 }

@@ -1,7 +1,7 @@
 //! Tools whose requests for memory are refused.
 use super::streams::{DEDUPED, INPUT};
 use super::{
-    ALONE, DEDUP, EMPTY_SHELF, Split, WORDS, assert_ended, assert_same, numbered_lines, run,
+    ALONE, DEDUP, EMPTY_SHELF, Ended, Split, WORDS, assert_ended, assert_same, numbered_lines, run,
 };
 use std::process::Abort;
 use std::test::Fail;
@@ -47,12 +47,16 @@ fn is_refused_after(
     if ended.status == 0 {
         assert_ended(rt, &ended, all, "", 0);
     } else {
-        assert_same(rt, ended.status, 1);
-        assert!(rt; ended.messages.as_slice().ends_with(b": no memory\n"));
-        assert!(rt; all.starts_with(ended.output.as_slice()));
-        assert!(rt; tool == DEDUP || ended.output.is_empty());
+        assert_begun(rt, &ended, if tool == DEDUP { all } else { b"" });
     }
     Ok(memory.refusals_left() == 0)
+}
+
+/// Asserts that a run ended for want of memory, and has written a first part of this.
+fn assert_begun(rt: &impl Abort, ended: &Ended, all: &[u8]) {
+    assert_same(rt, ended.status, 1);
+    assert!(rt; ended.messages.as_slice().ends_with(b": no memory\n"));
+    assert!(rt; all.starts_with(ended.output.as_slice()));
 }
 
 /// Refuses each request of a run in turn, up to the number `most`. Returns how many requests a run makes. `Err`: no memory.
@@ -69,12 +73,21 @@ fn requests_of(
     Ok(most)
 }
 
+/// Refuses each request of a run in turn, and asserts about how many it makes. `Err`: no memory.
+fn assert_requests(
+    rt: &(impl Abort + Threads + AllocGlobal + Sync),
+    row: &Row,
+) -> Result<(), Fail> {
+    let (_, _, (least, most)) = *row;
+    let requests = requests_of(rt, row, most)?;
+    assert!(rt; least < requests && requests < most);
+    Ok(())
+}
+
 #[test]
 fn each_request_is_refused_in_turn(rt: HostRuntime) -> Result<(), Fail> {
     for row in &ROWS {
-        let (_, _, (least, most)) = *row;
-        let requests = requests_of(&rt, row, most)?;
-        assert!(rt; least < requests && requests < most);
+        assert_requests(&rt, row)?;
     }
     Ok(())
 }
@@ -97,12 +110,16 @@ fn lines_before(
 ) -> Result<usize, Fail> {
     let memory = Refusing::new(rt.alloc(), Rule::new(0, usize::MAX, granted, u64::MAX));
     let ended = run(rt, &memory, &EMPTY_SHELF, ALONE, &[DEDUP], text)?;
-    let written = ended.output.as_slice();
-    assert!(rt; text.starts_with(written));
-    assert!(rt; written.is_empty() || written.ends_with(b"\n"));
-    let lines = written.iter().filter(|byte| **byte == b'\n').count();
+    assert!(rt; text.starts_with(ended.output.as_slice()));
+    let lines = whole_lines(rt, ended.output.as_slice());
     assert!(rt; (ended.status == 0) == (lines == DIFFERENT));
     Ok(lines)
+}
+
+/// Returns how many lines were written. Asserts that each is whole.
+fn whole_lines(rt: &impl Abort, written: &[u8]) -> usize {
+    assert!(rt; written.is_empty() || written.ends_with(b"\n"));
+    written.iter().filter(|byte| **byte == b'\n').count()
 }
 
 #[test]

@@ -63,8 +63,8 @@ fn fail_at_each_call(
 
 #[test]
 fn a_reader_that_fails_at_each_call(rt: HostRuntime) -> Result<(), Fail> {
-    for (at_once, calls) in CALLS {
-        fail_at_each_call(&rt, at_once, calls)?;
+    for (at_once, calls) in &CALLS {
+        fail_at_each_call(&rt, *at_once, *calls)?;
     }
     Ok(())
 }
@@ -140,7 +140,8 @@ const FULL: [(&str, Split, usize, &str, u8); 8] = [
 
 #[test]
 fn a_writer_that_is_full(rt: HostRuntime) -> Result<(), Fail> {
-    for (tool, split, room, message, status) in FULL {
+    for row in &FULL {
+        let (tool, split, room, message, status) = *row;
         let then = ErrorKind::StorageFull;
         assert_fills(&rt, (tool, split), Full { room, then }, message, status)?;
     }
@@ -157,9 +158,9 @@ const RUNS: [(&str, Split); 4] = [
 
 #[test]
 fn where_the_reader_has_gone_there_is_no_message(rt: HostRuntime) -> Result<(), Fail> {
-    for (tool, split) in RUNS {
+    for (tool, split) in &RUNS {
         let then = ErrorKind::BrokenPipe;
-        assert_fills(&rt, (tool, split), Full { room: 3, then }, "", 1)?;
+        assert_fills(&rt, (*tool, *split), Full { room: 3, then }, "", 1)?;
     }
     Ok(())
 }

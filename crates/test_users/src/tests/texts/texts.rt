@@ -39,7 +39,7 @@ const LINES: [(&[u8], &[u8]); 8] = [
 
 #[test]
 fn words_are_counted_in_the_order_of_first_appearance(rt: HostRuntime) -> Result<(), Fail> {
-    for (input, output) in TEXTS {
+    for (input, output) in &TEXTS {
         let wanted = (output.as_bytes(), "", 0);
         assert_splits(&rt, &EMPTY_SHELF, &[WORDS], input.as_bytes(), wanted)?;
     }
@@ -48,16 +48,16 @@ fn words_are_counted_in_the_order_of_first_appearance(rt: HostRuntime) -> Result
 
 #[test]
 fn each_different_line_is_written_once(rt: HostRuntime) -> Result<(), Fail> {
-    for (input, output) in LINES {
-        assert_splits(&rt, &EMPTY_SHELF, &[DEDUP], input, (output, "", 0))?;
+    for (input, output) in &LINES {
+        assert_splits(&rt, &EMPTY_SHELF, &[DEDUP], *input, (*output, "", 0))?;
     }
     Ok(())
 }
 
 #[test]
 fn a_line_that_is_no_text_is_named(rt: HostRuntime) -> Result<(), Fail> {
-    for (input, message) in NO_TEXT {
-        assert_splits(&rt, &EMPTY_SHELF, &[WORDS], input, (b"", message, 2))?;
+    for (input, message) in &NO_TEXT {
+        assert_splits(&rt, &EMPTY_SHELF, &[WORDS], *input, (b"", *message, 2))?;
     }
     Ok(())
 }
@@ -75,9 +75,9 @@ const NO_TOOL: [&[&str]; 7] = [
 
 #[test]
 fn words_that_name_no_tool_are_refused(rt: HostRuntime) -> Result<(), Fail> {
-    for words in NO_TOOL {
+    for words in &NO_TOOL {
         let input = b"a".as_slice();
-        let ended = run(&rt, rt.alloc(), &EMPTY_SHELF, ALONE, words, input)?;
+        let ended = run(&rt, rt.alloc(), &EMPTY_SHELF, ALONE, *words, input)?;
         assert_ended(&rt, &ended, b"", USAGE, 2);
     }
     Ok(())

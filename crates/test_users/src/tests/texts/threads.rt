@@ -24,13 +24,13 @@ const LONGER: [(&[u8], &[u8], &str); 3] = [
 
 #[test]
 fn equal_lines_in_different_pieces(rt: HostRuntime) -> Result<(), Fail> {
-    for (input, lines, words) in LONGER {
-        assert_splits(&rt, &EMPTY_SHELF, &[DEDUP], input, (lines, "", 0))?;
+    for (input, lines, words) in &LONGER {
+        assert_splits(&rt, &EMPTY_SHELF, &[DEDUP], *input, (*lines, "", 0))?;
         assert_splits(
             &rt,
             &EMPTY_SHELF,
             &[WORDS],
-            input,
+            *input,
             (words.as_bytes(), "", 0),
         )?;
     }
